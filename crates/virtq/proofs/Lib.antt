@@ -1,0 +1,5 @@
+-- What the definitions of queues mean, and what each promise of this floor determines.
+pub mod Sizes
+pub mod Scans
+pub mod Reading
+pub mod Determined

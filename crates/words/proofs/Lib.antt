@@ -1,0 +1,5 @@
+-- Laws that the floors above cite, and what each promise of this floor determines.
+pub mod Picks
+pub mod Bytes
+pub mod Actions
+pub mod Determined
