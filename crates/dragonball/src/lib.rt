@@ -1,5 +1,12 @@
+// From src/mmio/dragonball.rs:
+//
 // Copyright (C) 2019 Alibaba Cloud. All rights reserved.
 // SPDX-License-Identifier: Apache-2.0 or BSD-3-Clause
+//
+// From src/mmio/mmio_state.rs and src/mmio/mmio_v2.rs, the functions after `Msi`:
+//
+// Copyright (C) 2019 Alibaba Cloud Computing. All rights reserved.
+// SPDX-License-Identifier: Apache-2.0 AND BSD-3-Clause
 
 //! Related to Dragonball MMIO extension.
 
@@ -213,7 +220,7 @@ impl Msi {
     }
 }
 
-// What follows stands in mmio_state.rs and mmio_v2.rs, spread over functions with other work. Here each rule is a function.
+// In mmio_state.rs and mmio_v2.rs what follows is spread over functions with other work. Here each rule is a function.
 
 /// A message command taken apart.
 pub struct MsiCommand {
