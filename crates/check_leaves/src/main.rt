@@ -78,30 +78,40 @@ fn fields() {
     hex(b"used high 1:", after(Field::UsedHigh, 1));
 }
 
+fn inside(label: &[u8], m: Memory, start: u64, n: u64) {
+    flag(label, m.inside(start, n));
+}
+
 fn areas() {
     let m = Memory { length: 0x10000 };
-    flag(
+    inside(
         b"memory 0x10000, 256 descriptors at 0xf000:",
-        m.inside(0xf000, 16 * 256),
+        m,
+        0xf000,
+        16 * 256,
     );
-    flag(
+    inside(
         b"memory 0x10000, 256 descriptors at 0xf010:",
-        m.inside(0xf010, 16 * 256),
+        m,
+        0xf010,
+        16 * 256,
     );
-    flag(
+    inside(
         b"an area whose end would wrap:",
-        m.inside(0xffff_ffff_ffff_f000, 0x1000),
+        m,
+        0xffff_ffff_ffff_f000,
+        0x1000,
     );
-    flag(b"an area longer than the memory:", m.inside(0, 0x10001));
-    flag(b"all of the memory:", m.inside(0, 0x10000));
+    inside(b"an area longer than the memory:", m, 0, 0x10001);
+    inside(b"all of the memory:", m, 0, 0x10000);
     let none = Memory { length: 0 };
-    flag(b"no byte of no memory:", none.inside(0, 0));
-    flag(b"one byte of no memory:", none.inside(0, 1));
+    inside(b"no byte of no memory:", none, 0, 0);
+    inside(b"one byte of no memory:", none, 0, 1);
     let all = Memory {
         length: 0xffff_ffff_ffff_ffff,
     };
-    flag(b"up to 2^64 - 1:", all.inside(0xffff_ffff_ffff_fff0, 15));
-    flag(b"up to 2^64:", all.inside(0xffff_ffff_ffff_fff0, 16));
+    inside(b"up to 2^64 - 1:", all, 0xffff_ffff_ffff_fff0, 15);
+    inside(b"up to 2^64:", all, 0xffff_ffff_ffff_fff0, 16);
 }
 
 fn laid_out(used: u32) -> Queue {
@@ -127,6 +137,10 @@ fn found(label: &[u8], s: Scan) {
     }
 }
 
+fn scan(label: &[u8], queues: [Queue; 16], n: usize, m: Memory) {
+    found(label, virtq::first_invalid(queues, n, m));
+}
+
 // The used area of 256 entries has 2,054 bytes.
 fn scans() {
     let m = Memory { length: 0x4000 };
@@ -135,25 +149,16 @@ fn scans() {
     flag(b"a queue that ends with the memory:", good.valid(m));
     flag(b"one byte further:", laid_out(0x37fb).valid(m));
     flag(b"a fresh queue:", Queue::fresh(256).valid(m));
-    found(b"16 valid queues:", virtq::first_invalid(queues, 16, m));
-    found(
-        b"more asked for than there are:",
-        virtq::first_invalid(queues, 17, m),
-    );
+    scan(b"16 valid queues:", queues, 16, m);
+    scan(b"more asked for than there are:", queues, 17, m);
     queues[15] = laid_out(0x3800);
-    found(
-        b"the last one invalid:",
-        virtq::first_invalid(queues, 16, m),
-    );
-    found(
-        b"the last one left out:",
-        virtq::first_invalid(queues, 15, m),
-    );
+    scan(b"the last one invalid:", queues, 16, m);
+    scan(b"the last one left out:", queues, 15, m);
     queues[3] = Queue::fresh(256);
-    found(b"the fourth too:", virtq::first_invalid(queues, 16, m));
+    scan(b"the fourth too:", queues, 16, m);
     queues[0] = Queue::fresh(256);
-    found(b"and the first:", virtq::first_invalid(queues, 16, m));
-    found(b"no queue at all:", virtq::first_invalid(queues, 0, m));
+    scan(b"and the first:", queues, 16, m);
+    scan(b"no queue at all:", queues, 0, m);
 }
 
 fn indices() {
@@ -292,44 +297,21 @@ fn config_offset(r: ReadRegister) -> u64 {
     }
 }
 
+fn read(label: &[u8], offset: u64, length: usize) {
+    number(label, read_name(registers::read_register(offset, length)));
+}
+
 fn reads() {
-    number(b"read 0x000, 4:", read_name(registers::read_register(0, 4)));
-    number(
-        b"read 0x044, 4:",
-        read_name(registers::read_register(0x44, 4)),
-    );
-    number(
-        b"read 0x044, 2:",
-        read_name(registers::read_register(0x44, 2)),
-    );
-    number(
-        b"read 0x058, 4:",
-        read_name(registers::read_register(0x58, 4)),
-    );
-    number(
-        b"read 0x0c0, 2:",
-        read_name(registers::read_register(0xc0, 2)),
-    );
-    number(
-        b"read 0x0c0, 4:",
-        read_name(registers::read_register(0xc0, 4)),
-    );
-    number(
-        b"read 0x0c2, 2:",
-        read_name(registers::read_register(0xc2, 2)),
-    );
-    number(
-        b"read 0x0fc, 4:",
-        read_name(registers::read_register(0xfc, 4)),
-    );
-    number(
-        b"read 0x0ff, 0:",
-        read_name(registers::read_register(0xff, 0)),
-    );
-    number(
-        b"read 0x100, 0:",
-        read_name(registers::read_register(0x100, 0)),
-    );
+    read(b"read 0x000, 4:", 0, 4);
+    read(b"read 0x044, 4:", 0x44, 4);
+    read(b"read 0x044, 2:", 0x44, 2);
+    read(b"read 0x058, 4:", 0x58, 4);
+    read(b"read 0x0c0, 2:", 0xc0, 2);
+    read(b"read 0x0c0, 4:", 0xc0, 4);
+    read(b"read 0x0c2, 2:", 0xc2, 2);
+    read(b"read 0x0fc, 4:", 0xfc, 4);
+    read(b"read 0x0ff, 0:", 0xff, 0);
+    read(b"read 0x100, 0:", 0x100, 0);
     hex(
         b"read 2^64 - 1, 9, offset:",
         config_offset(registers::read_register(0xffff_ffff_ffff_ffff, 9)),
@@ -369,51 +351,22 @@ fn write_name(r: WriteRegister) -> u64 {
     }
 }
 
+fn write(label: &[u8], offset: u64, length: usize) {
+    number(label, write_name(registers::write_register(offset, length)));
+}
+
 fn writes() {
-    number(
-        b"write 0x030, 4:",
-        write_name(registers::write_register(0x30, 4)),
-    );
-    number(
-        b"write 0x038, 4:",
-        write_name(registers::write_register(0x38, 4)),
-    );
-    number(
-        b"write 0x0a4, 4:",
-        write_name(registers::write_register(0xa4, 4)),
-    );
-    number(
-        b"write 0x038, 8:",
-        write_name(registers::write_register(0x38, 8)),
-    );
-    number(
-        b"write 0x050, 4:",
-        write_name(registers::write_register(0x50, 4)),
-    );
-    number(
-        b"write 0x0c0, 2:",
-        write_name(registers::write_register(0xc0, 2)),
-    );
-    number(
-        b"write 0x0c0, 4:",
-        write_name(registers::write_register(0xc0, 4)),
-    );
-    number(
-        b"write 0x0c2, 2:",
-        write_name(registers::write_register(0xc2, 2)),
-    );
-    number(
-        b"write 0x100, 0:",
-        write_name(registers::write_register(0x100, 0)),
-    );
-    number(
-        b"write 0xfff, 8:",
-        write_name(registers::write_register(0xfff, 8)),
-    );
-    number(
-        b"write 0x1000, 4:",
-        write_name(registers::write_register(0x1000, 4)),
-    );
+    write(b"write 0x030, 4:", 0x30, 4);
+    write(b"write 0x038, 4:", 0x38, 4);
+    write(b"write 0x0a4, 4:", 0xa4, 4);
+    write(b"write 0x038, 8:", 0x38, 8);
+    write(b"write 0x050, 4:", 0x50, 4);
+    write(b"write 0x0c0, 2:", 0xc0, 2);
+    write(b"write 0x0c0, 4:", 0xc0, 4);
+    write(b"write 0x0c2, 2:", 0xc2, 2);
+    write(b"write 0x100, 0:", 0x100, 0);
+    write(b"write 0xfff, 8:", 0xfff, 8);
+    write(b"write 0x1000, 4:", 0x1000, 4);
 }
 
 fn wide(b: u8) -> u64 {
