@@ -4,11 +4,13 @@ use mathlib.Core.List.{List}
 use Prim.Native.Nat.{ℕ, _+_, _-_, _<_, _≤_}
 use native.Mathlib.Nat.{sub-zero}
 use native.Mathlib.Omega.{arith}
+use lib.ListN.{length}
 use Rattle.words.specs.Lists.{up, down}
 use Rattle.words.proofs.Lists.{up-more, up-none, down-more}
 use Rattle.words.specs.declared.Action.{Action}
 use Rattle.tape.specs.declared.Tape.{Tape}
 use Rattle.tape.specs.Play.{Sheet, sheet, one, play, Played}
+use Rattle.tape.proofs.Playing.{same-long}
 
 -- records, so that their arguments are found at each use
 pub record Rising (b : ℕ) (f : ℕ → Action) (n : ℕ) (l₀ : List ℕ) (t₀ : Tape) (l : List ℕ) (t : Tape) (j : ℕ) : Type 0 where
@@ -29,6 +31,9 @@ module _ {b : ℕ} {f : ℕ → Action} {n : ℕ} {l₀ : List ℕ} {t₀ : Tape
   pub rising-last : n ≤ j → Played b l₀ t₀ (up 0 n f) l t
   rising-last h = record { is = sym (ap (play b (sheet l t)) (up-none j n f h)) ∙ g .rest }
 
+  pub rising-long : length l ≡ length l₀
+  rising-long = same-long b (sheet l t) (sheet l₀ t₀) (up j (n - j) f) (up 0 n f) (g .rest)
+
 pub record Sinking (b : ℕ) (f : ℕ → Action) (n : ℕ) (l₀ : List ℕ) (t₀ : Tape) (l : List ℕ) (t : Tape) (j : ℕ) : Type 0 where
   pub within : j ≤ n
   pub rest : play b (sheet l t) (down j f) ≡ play b (sheet l₀ t₀) (down n f)
@@ -43,3 +48,6 @@ module _ {b : ℕ} {f : ℕ → Action} {n : ℕ} {l₀ : List ℕ} {t₀ : Tape
 
   pub sinking-last : j ≤ 0 → Played b l₀ t₀ (down n f) l t
   sinking-last h = let z : j ≡ 0 = omega arith in record { is = sym (ap (λ (m : ℕ). play b (sheet l t) (down m f)) z) ∙ g .rest }
+
+  pub sinking-long : length l ≡ length l₀
+  sinking-long = same-long b (sheet l t) (sheet l₀ t₀) (down j f) (down n f) (g .rest)

@@ -24,18 +24,17 @@ sheet l t = record { words = l; tape = t }
 abbrev pub roomFor : (n : ℕ) → (words : ℕ) → Bool
 roomFor n w = leb (5 * n + 5) w
 
-abbrev pub moved : (base : ℕ) → Sheet → Action → Sheet
-moved b s x =
-    sheet (sets (s .words) (5 * s .tape .count) (wordsOf x))
+-- One record: its words behind the others, the count, the answers left, the table. Where five words are not left it is
+-- neither written nor counted.
+unfoldable pub one : (base : ℕ) → Sheet → Action → Sheet
+one b s x =
+    sheet
+    (pick (roomFor (s .tape .count) (length (s .words))) (sets (s .words) (5 * s .tape .count) (wordsOf x)) (s .words))
     (record {
-      count = s .tape .count + 1;
+      count = pick (roomFor (s .tape .count) (length (s .words))) (s .tape .count + 1) (s .tape .count);
       left = leftAfter (s .tape .left) x;
       held = heldOne b (s .tape .left) x (s .tape .held);
     })
-
--- one record; where five words are not left, nothing happens
-unfoldable pub one : (base : ℕ) → Sheet → Action → Sheet
-one b s x = pick (roomFor (s .tape .count) (length (s .words))) (moved b s x) s
 
 -- one record after the other
 abbrev pub play : (base : ℕ) → Sheet → List Action → Sheet

@@ -208,19 +208,25 @@ fn room_for(count: usize, words: usize) -> bool
     count <= (words - 5) / 5
 }
 
-/// Writes one record behind the others, and moves answers and held table on. Where five words are not left, nothing
-/// happens.
+/// Writes one record behind the others, and moves answers and held table on. Where five words are not left, the record is
+/// neither written nor counted.
 pub fn emit(actions: &mut [u64], t: Tape, base: u64, x: Action) -> Tape
     ensures { λ r. ⌜ sheet (now (actions .exit)) r ≡ one base (sheet (now (actions .entry)) t) x ⌝ }
 {
+    let before = t.held;
+    let held = held_one(before, base, t.left, x);
+    let left = left_after(t.left, x);
     if room_for(t.count, actions.len()) {
-        let held = t.held;
         words::append(actions, 5 * t.count, x);
         return Tape {
             count: t.count + 1,
-            left: left_after(t.left, x),
-            held: held_one(held, base, t.left, x),
+            left,
+            held,
         };
     }
-    t
+    Tape {
+        count: t.count,
+        left,
+        held,
+    }
 }

@@ -1,0 +1,74 @@
+-- The requests of an activation in 01's order, what follows the one that is refused, and the records of a state reset (01,
+-- Actions and State reset). No state: only the window's base, the doorbell setting and the number of queues.
+use mathlib.Core.Bool.{Bool, true, false}
+use mathlib.Core.List.{List, [], _∷_, _++_}
+use Prim.Native.Nat.{ℕ, zero, suc, _+_}
+use Rattle.words.specs.Pick.{pick}
+use Rattle.words.specs.Lists.{up, down}
+use Rattle.words.specs.declared.Action.{Action}
+use Rattle.tape.specs.Actions.{enableInterrupts, activateDevice, resetInterrupts}
+use Rattle.tape.specs.Held.{entry, bell, note, bellAddress, noteAddress, register, unregister}
+
+pub data Request : Type 0 where
+  Bell : (q : ℕ) → Request
+  Note : (q : ℕ) → Request
+  Enable : Request
+  Activate : Request
+
+-- "for each queue i: with a doorbell, register base + 0x1000 + 4i, width 0; then base + 0x50, width 4, value i"
+abbrev pub turn : (doorbell : Bool) (i : ℕ) → List Request → List Request
+turn d i xs = pick d (Bell i ∷ Note i ∷ xs) (Note i ∷ xs)
+
+-- "Then 3, then 4"
+abbrev pub lasts : List Request
+lasts = Enable ∷ Activate ∷ []
+
+-- of m queues from queue i on
+abbrev pub requests : (doorbell : Bool) (i m : ℕ) → List Request
+requests d i zero = lasts
+requests d i (suc m) = turn d i (requests d (i + 1) m)
+
+-- from num - 1 down to 0, queue k at one address, width 8; value 0 or k + 1. No entry has width 8: these miss.
+abbrev pub reverts : (num address : ℕ) (wildcard : Bool) → List Action
+reverts num a w = down num (λ k. unregister (entry k a 8 (pick w 0 (k + 1))))
+
+-- base, doorbell setting and number of queues are the same all along
+module _ (b : ℕ) (d : Bool) (n : ℕ) where
+  -- "unregister all doorbells 0 up", also those never registered
+  abbrev pub bellsOff : List Action
+  bellsOff = up 0 n (λ q. unregister (bell b q))
+
+  abbrev pub notesOff : List Action
+  notesOff = up 0 n (λ q. unregister (note b q))
+
+  -- a state reset: "action 6; if a full set of registrations was accepted since the last state reset, unregister each
+  -- notify in queue order"
+  abbrev pub wipes : (full : Bool) → List Action
+  wipes full = resetInterrupts ∷ pick full notesOff []
+
+  abbrev pub recordOf : Request → Action
+  recordOf (Bell i) = register (bell b i)
+  recordOf (Note i) = register (note b i)
+  recordOf Enable = enableInterrupts
+  recordOf Activate = activateDevice
+
+  -- "Doorbell refused at i: for k from i-1 down to 0, unregister queue k at doorbell i, width 8, value 0. Notify refused at
+  -- i: unregister all doorbells 0 up, if any, then for k from i-1 down to 0 queue k at 0x50, width 8, value k+1." Then the
+  -- state reset; 3 and 4 are asked only once the full set was accepted.
+  abbrev pub after : Request → List Action
+  after (Bell i) = reverts i (bellAddress b i) true ++ wipes false
+  after (Note i) = (pick d bellsOff [] ++ reverts i (noteAddress b) false) ++ wipes false
+  after Enable = wipes true
+  after Activate = wipes true
+
+  -- "the first k answered requests are accepted, the next is refused, and no answered request follows it"
+  abbrev pub asks : (k : ℕ) → List Request → List Action
+  asks k [] = []
+  asks zero (x ∷ xs) = recordOf x ∷ after x
+  asks (suc k) (x ∷ xs) = recordOf x ∷ asks k xs
+
+-- whether all are accepted
+abbrev pub starts : (k : ℕ) → List Request → Bool
+starts k [] = true
+starts zero (x ∷ xs) = false
+starts (suc k) (x ∷ xs) = starts k xs
