@@ -1,5 +1,5 @@
-//! Runs the lowest floors on the bench checks that they decide and on their limits. What it prints is held to the file
-//! `stdout`.
+//! Runs the lowest floors on the bench checks that they decide and on their limits. Each line has what was asked, and then
+//! the answers in that order; it is held to the file `stdout`.
 
 use dragonball::DoorBell;
 use dragonball::Msi;
@@ -16,104 +16,86 @@ fn say(label: &[u8]) {
     io::write_all(1, label);
 }
 
-fn number(label: &[u8], n: u64) {
-    io::write_all(1, label);
-    io::write_all(1, b" ");
+fn dec(n: u64) {
+    say(b" ");
     io::print_decimal(1, n);
-    io::write_all(1, b"\n");
 }
 
-fn hex(label: &[u8], n: u64) {
-    io::write_all(1, label);
-    io::write_all(1, b" ");
+fn hex(n: u64) {
+    say(b" ");
     io::print_hex(1, n, 1);
-    io::write_all(1, b"\n");
 }
 
-fn flag(label: &[u8], b: bool) {
-    io::write_all(1, label);
+fn flag(b: bool) {
     if b {
-        io::write_all(1, b" yes\n");
+        say(b" yes");
     } else {
-        io::write_all(1, b" no\n");
+        say(b" no");
     }
 }
 
-fn size_after(max: u16, v: u32) -> u64 {
+fn size(max: u16, v: u32) {
     let q = Queue::fresh(max).update(max, Field::Size, v);
-    q.size as u64
+    dec(q.size as u64);
 }
 
 fn sizes() {
-    number(b"size 0x10100, maximum 512:", size_after(512, 0x10100));
-    number(b"size 300, maximum 512:", size_after(512, 300));
-    number(b"size 0, maximum 512:", size_after(512, 0));
-    number(b"size 1, maximum 512:", size_after(512, 1));
-    number(b"size 1024, maximum 512:", size_after(512, 1024));
-    number(b"size 0x10000, maximum 512:", size_after(512, 0x10000));
-    number(b"size 16384, maximum 32768:", size_after(32768, 16384));
-    number(b"size 65536, maximum 32768:", size_after(32768, 65536));
+    say(b"\nmaximum 512, size 0x10100, 300, 0, 1, 1024, 0x10000:");
+    size(512, 0x10100);
+    size(512, 300);
+    size(512, 0);
+    size(512, 1);
+    size(512, 1024);
+    size(512, 0x10000);
+    say(b"\nmaximum 32768, size 16384, 65536:");
+    size(32768, 16384);
+    size(32768, 65536);
 }
 
-fn after(f: Field, v: u32) -> u64 {
+fn field(f: Field, v: u32) {
     let q = Queue::fresh(512).update(512, f, v);
-    q.get(f) as u64
+    hex(q.get(f) as u64);
 }
 
 fn fields() {
-    number(b"ready 0x101:", after(Field::Ready, 0x101));
-    number(b"ready 1:", after(Field::Ready, 1));
-    number(b"ready 0:", after(Field::Ready, 0));
-    hex(b"descriptor 0x1008:", after(Field::DescLow, 0x1008));
-    hex(b"descriptor 0x1010:", after(Field::DescLow, 0x1010));
-    hex(b"available 0x1001:", after(Field::AvailLow, 0x1001));
-    hex(b"available 0x1002:", after(Field::AvailLow, 0x1002));
-    hex(b"used 0x1002:", after(Field::UsedLow, 0x1002));
-    hex(b"used 0x1004:", after(Field::UsedLow, 0x1004));
-    hex(b"descriptor high 0x1008:", after(Field::DescHigh, 0x1008));
-    hex(
-        b"available high 0xffffffff:",
-        after(Field::AvailHigh, 0xffffffff),
-    );
-    hex(b"used high 1:", after(Field::UsedHigh, 1));
+    say(b"\nready 0x101, 1, 0:");
+    field(Field::Ready, 0x101);
+    field(Field::Ready, 1);
+    field(Field::Ready, 0);
+    say(b"\ndescriptor 0x1008, 0x1010, available 0x1001, 0x1002, used 0x1002, 0x1004:");
+    field(Field::DescLow, 0x1008);
+    field(Field::DescLow, 0x1010);
+    field(Field::AvailLow, 0x1001);
+    field(Field::AvailLow, 0x1002);
+    field(Field::UsedLow, 0x1002);
+    field(Field::UsedLow, 0x1004);
+    say(b"\nhigh halves 0x1008, 0xffffffff, 1:");
+    field(Field::DescHigh, 0x1008);
+    field(Field::AvailHigh, 0xffff_ffff);
+    field(Field::UsedHigh, 1);
 }
 
-fn inside(label: &[u8], m: Memory, start: u64, n: u64) {
-    flag(label, m.inside(start, n));
+fn inside(length: u64, start: u64, n: u64) {
+    flag(Memory { length }.inside(start, n));
 }
 
 fn areas() {
-    let m = Memory { length: 0x10000 };
-    inside(
-        b"memory 0x10000, 256 descriptors at 0xf000:",
-        m,
-        0xf000,
-        16 * 256,
+    say(
+        b"\nmemory 0x10000, 256 descriptors at 0xf000, 0xf010; a wrapping end, one byte too long, all of it:",
     );
-    inside(
-        b"memory 0x10000, 256 descriptors at 0xf010:",
-        m,
-        0xf010,
-        16 * 256,
-    );
-    inside(
-        b"an area whose end would wrap:",
-        m,
-        0xffff_ffff_ffff_f000,
-        0x1000,
-    );
-    inside(b"an area longer than the memory:", m, 0, 0x10001);
-    inside(b"all of the memory:", m, 0, 0x10000);
-    let none = Memory { length: 0 };
-    inside(b"no byte of no memory:", none, 0, 0);
-    inside(b"one byte of no memory:", none, 0, 1);
-    let all = Memory {
-        length: 0xffff_ffff_ffff_ffff,
-    };
-    inside(b"up to 2^64 - 1:", all, 0xffff_ffff_ffff_fff0, 15);
-    inside(b"up to 2^64:", all, 0xffff_ffff_ffff_fff0, 16);
+    inside(0x10000, 0xf000, 16 * 256);
+    inside(0x10000, 0xf010, 16 * 256);
+    inside(0x10000, 0xffff_ffff_ffff_f000, 0x1000);
+    inside(0x10000, 0, 0x10001);
+    inside(0x10000, 0, 0x10000);
+    say(b"\nno memory, no byte of it, one byte; memory 2^64 - 1, up to its end, one past:");
+    inside(0, 0, 0);
+    inside(0, 0, 1);
+    inside(0xffff_ffff_ffff_ffff, 0xffff_ffff_ffff_fff0, 15);
+    inside(0xffff_ffff_ffff_ffff, 0xffff_ffff_ffff_fff0, 16);
 }
 
+// A queue of 256 whose used area, of 2,054 bytes, starts at `used`.
 fn laid_out(used: u32) -> Queue {
     let mut q = Queue::fresh(256);
     q.ready = true;
@@ -123,147 +105,117 @@ fn laid_out(used: u32) -> Queue {
     q
 }
 
-fn found(label: &[u8], s: Scan) {
-    io::write_all(1, label);
-    match s {
-        Scan::All => {
-            io::write_all(1, b" none\n");
-        }
-        Scan::At(q) => {
-            io::write_all(1, b" ");
-            io::print_decimal(1, q.0 as u64);
-            io::write_all(1, b"\n");
-        }
+fn valid(used: u32) {
+    flag(laid_out(used).valid(Memory { length: 0x4000 }));
+}
+
+// Sixteen valid queues but for the two that are named.
+fn scan(first: usize, second: usize, n: usize) {
+    let mut queues = [laid_out(0x37fa); 16];
+    if first < 16 {
+        queues[first] = laid_out(0x3800);
+    }
+    if second < 16 {
+        queues[second] = Queue::fresh(256);
+    }
+    match virtq::first_invalid(queues, n, Memory { length: 0x4000 }) {
+        Scan::All => say(b" none"),
+        Scan::At(q) => dec(q.0 as u64),
     }
 }
 
-fn scan(label: &[u8], queues: [Queue; 16], n: usize, m: Memory) {
-    found(label, virtq::first_invalid(queues, n, m));
+fn scans() {
+    say(b"\nmemory 0x4000, a queue that ends with it, one byte further; a fresh queue:");
+    valid(0x37fa);
+    valid(0x37fb);
+    flag(Queue::fresh(256).valid(Memory { length: 0x4000 }));
+    say(b"\nall 16 valid, 17 asked for; 15 invalid, left out; 15 and 3; 15 and 0; of no queue:");
+    scan(16, 16, 16);
+    scan(16, 16, 17);
+    scan(15, 16, 16);
+    scan(15, 16, 15);
+    scan(15, 3, 16);
+    scan(15, 0, 16);
+    scan(15, 0, 0);
 }
 
-// The used area of 256 entries has 2,054 bytes.
-fn scans() {
-    let m = Memory { length: 0x4000 };
-    let good = laid_out(0x37fa);
-    let mut queues = [good; 16];
-    flag(b"a queue that ends with the memory:", good.valid(m));
-    flag(b"one byte further:", laid_out(0x37fb).valid(m));
-    flag(b"a fresh queue:", Queue::fresh(256).valid(m));
-    scan(b"16 valid queues:", queues, 16, m);
-    scan(b"more asked for than there are:", queues, 17, m);
-    queues[15] = laid_out(0x3800);
-    scan(b"the last one invalid:", queues, 16, m);
-    scan(b"the last one left out:", queues, 15, m);
-    queues[3] = Queue::fresh(256);
-    scan(b"the fourth too:", queues, 16, m);
-    queues[0] = Queue::fresh(256);
-    scan(b"and the first:", queues, 16, m);
-    scan(b"no queue at all:", queues, 0, m);
+fn vector(q: u32) {
+    dec(QueueIndex(q).vector().0);
 }
 
 fn indices() {
-    number(b"queue 0 signals vector", QueueIndex(0).vector().0);
-    number(b"queue 15 signals vector", QueueIndex(15).vector().0);
-    number(
-        b"queue 4294967295 signals vector",
-        QueueIndex(0xffff_ffff).vector().0,
-    );
+    say(b"\nvectors of queues 0, 15, 4294967295:");
+    vector(0);
+    vector(15);
+    vector(0xffff_ffff);
+}
+
+fn region(offset: u64, list: u64) {
+    let base = dragonball::shm_base(offset, list);
+    hex(dragonball::low_word(base) as u64);
+    hex(dragonball::high_word(base) as u64);
 }
 
 fn regions() {
-    let wrapped = dragonball::shm_base(0xffff_ffff_0000_0000, 0x1_0000_0001);
-    hex(
-        b"region 0xffffffff00000000, list 0x100000001, low:",
-        dragonball::low_word(wrapped) as u64,
-    );
-    hex(b"high:", dragonball::high_word(wrapped) as u64);
-    let plain = dragonball::shm_base(0x1234_0000, 0x5_0000_5678);
-    hex(
-        b"region 0x12340000, list 0x500005678, low:",
-        dragonball::low_word(plain) as u64,
-    );
-    hex(b"high:", dragonball::high_word(plain) as u64);
+    say(b"\nregion 0xffffffff00000000, list 0x100000001; region 0x12340000, list 0x500005678:");
+    region(0xffff_ffff_0000_0000, 0x1_0000_0001);
+    region(0x1234_0000, 0x5_0000_5678);
+}
+
+fn vendor(msi: bool, given: bool, features: u32, wildcard: bool) {
+    hex(dragonball::device_vendor(msi, given, features, wildcard) as u64);
+    flag(dragonball::doorbell_enabled(given, features, wildcard));
 }
 
 fn vendors() {
-    hex(
-        b"vendor, nothing given:",
-        dragonball::device_vendor(false, false, 0xffff_ffff, true) as u64,
+    say(
+        b"\nvendor and doorbell, nothing given; MSI; features 0x1ff with wildcard, without; MSI and bit 1; 0xfb:",
     );
-    hex(
-        b"vendor, MSI:",
-        dragonball::device_vendor(true, false, 0, false) as u64,
-    );
-    hex(
-        b"vendor, features 0x1ff, wildcard:",
-        dragonball::device_vendor(false, true, 0x1ff, true) as u64,
-    );
-    hex(
-        b"vendor, features 0x1ff, no wildcard:",
-        dragonball::device_vendor(false, true, 0x1ff, false) as u64,
-    );
-    hex(
-        b"vendor, MSI twice over:",
-        dragonball::device_vendor(true, true, 2, false) as u64,
-    );
-    flag(
-        b"doorbell, bit 2 and wildcard:",
-        dragonball::doorbell_enabled(true, 4, true),
-    );
-    flag(
-        b"doorbell, bit 2 alone:",
-        dragonball::doorbell_enabled(true, 4, false),
-    );
-    flag(
-        b"doorbell, wildcard alone:",
-        dragonball::doorbell_enabled(true, 0xfb, true),
-    );
-    flag(
-        b"doorbell, not given:",
-        dragonball::doorbell_enabled(false, 4, true),
-    );
+    vendor(false, false, 0xffff_ffff, true);
+    vendor(true, false, 0, false);
+    vendor(false, true, 0x1ff, true);
+    vendor(false, true, 0x1ff, false);
+    vendor(true, true, 2, false);
+    vendor(false, true, 0xfb, true);
+}
+
+fn doorbell(offset: u32, scale: u32, q: u32) {
+    let d = DoorBell::new(offset, scale);
+    hex(d.register_data() as u64);
+    hex(d.queue_offset(QueueIndex(q)));
 }
 
 fn doorbells() {
-    let d = DoorBell::new(0x1000, 4);
-    hex(b"doorbell word:", d.register_data() as u64);
-    hex(b"doorbell of queue 15:", d.queue_offset(QueueIndex(15)));
-    let far = DoorBell::new(0xffff_ffff, 0xffff_ffff);
-    hex(b"largest doorbell word:", far.register_data() as u64);
-    hex(
-        b"farthest doorbell:",
-        far.queue_offset(QueueIndex(0xffff_ffff)),
+    say(
+        b"\nword and offset, the default's at queue 15; the largest; a scale that leaves the word:",
     );
-    hex(
-        b"a scale that leaves the word:",
-        DoorBell::new(1, 0x10004).register_data() as u64,
-    );
+    doorbell(0x1000, 4, 15);
+    doorbell(0xffff_ffff, 0xffff_ffff, 0xffff_ffff);
+    doorbell(1, 0x10004, 0);
 }
 
-fn command(label: &[u8], v: u16) {
+fn command(v: u16) {
     let m = dragonball::msi_command(v);
-    io::write_all(1, label);
-    io::write_all(1, b" ");
-    io::print_hex(1, m.code as u64, 4);
-    io::write_all(1, b" ");
-    io::print_decimal(1, m.argument as u64);
-    io::write_all(1, b"\n");
+    hex(m.code as u64);
+    dec(m.argument as u64);
 }
 
 fn messages() {
-    command(b"command 0x1002:", 0x1002);
-    command(b"command 0x0001:", 0x0001);
-    command(b"command 0x3fff:", 0x3fff);
-    command(b"command 0xffff:", 0xffff);
+    say(b"\ncommands 0x1002, 0x0001, 0x3fff, 0xffff:");
+    command(0x1002);
+    command(0x0001);
+    command(0x3fff);
+    command(0xffff);
+    say(b"\na stage of 1, 2, 3, 4:");
     let m = Msi::default()
         .with_index_select(1)
         .with_address_low(2)
         .with_address_high(3)
         .with_data(4);
-    number(b"stage, index:", m.index_select as u64);
-    number(b"stage, low:", m.address_low as u64);
-    number(b"stage, high:", m.address_high as u64);
-    number(b"stage, data:", m.data as u64);
+    dec(m.index_select as u64);
+    dec(m.address_low as u64);
+    dec(m.address_high as u64);
+    dec(m.data as u64);
 }
 
 fn read_name(r: ReadRegister) -> u64 {
@@ -284,38 +236,31 @@ fn read_name(r: ReadRegister) -> u64 {
         ReadRegister::ShmBaseHigh => 13,
         ReadRegister::ConfigGeneration => 14,
         ReadRegister::MsiCsr => 15,
-        ReadRegister::Config(_) => 100,
-        ReadRegister::Unknown => 200,
+        ReadRegister::Config(n) => n,
+        ReadRegister::Unknown => 99,
     }
 }
 
-fn config_offset(r: ReadRegister) -> u64 {
-    if let ReadRegister::Config(n) = r {
-        n
-    } else {
-        0
-    }
-}
-
-fn read(label: &[u8], offset: u64, length: usize) {
-    number(label, read_name(registers::read_register(offset, length)));
+fn read(offset: u64, length: usize) {
+    dec(read_name(registers::read_register(offset, length)));
 }
 
 fn reads() {
-    read(b"read 0x000, 4:", 0, 4);
-    read(b"read 0x044, 4:", 0x44, 4);
-    read(b"read 0x044, 2:", 0x44, 2);
-    read(b"read 0x058, 4:", 0x58, 4);
-    read(b"read 0x0c0, 2:", 0xc0, 2);
-    read(b"read 0x0c0, 4:", 0xc0, 4);
-    read(b"read 0x0c2, 2:", 0xc2, 2);
-    read(b"read 0x0fc, 4:", 0xfc, 4);
-    read(b"read 0x0ff, 0:", 0xff, 0);
-    read(b"read 0x100, 0:", 0x100, 0);
-    hex(
-        b"read 2^64 - 1, 9, offset:",
-        config_offset(registers::read_register(0xffff_ffff_ffff_ffff, 9)),
-    );
+    say(b"\nread 000, 044, 050, 058, 0c0, 0fc by 4; 044, 0c0, 0c2 by 2; 0ff by 0:");
+    read(0, 4);
+    read(0x44, 4);
+    read(0x50, 4);
+    read(0x58, 4);
+    read(0xc0, 4);
+    read(0xfc, 4);
+    read(0x44, 2);
+    read(0xc0, 2);
+    read(0xc2, 2);
+    read(0xff, 0);
+    say(b"\nread 0x164 by 0, 0x2000 by 4, 2^64 - 1 by 9:");
+    read(0x164, 0);
+    read(0x2000, 4);
+    read(0xffff_ffff_ffff_ffff, 9);
 }
 
 fn field_number(f: Field) -> u64 {
@@ -346,27 +291,30 @@ fn write_name(r: WriteRegister) -> u64 {
         WriteRegister::MsiData => 9,
         WriteRegister::MsiCsr => 10,
         WriteRegister::MsiCommand => 11,
-        WriteRegister::Config(_) => 100,
-        WriteRegister::Unknown => 200,
+        WriteRegister::Config(n) => n,
+        WriteRegister::Unknown => 99,
     }
 }
 
-fn write(label: &[u8], offset: u64, length: usize) {
-    number(label, write_name(registers::write_register(offset, length)));
+fn write(offset: u64, length: usize) {
+    dec(write_name(registers::write_register(offset, length)));
 }
 
 fn writes() {
-    write(b"write 0x030, 4:", 0x30, 4);
-    write(b"write 0x038, 4:", 0x38, 4);
-    write(b"write 0x0a4, 4:", 0xa4, 4);
-    write(b"write 0x038, 8:", 0x38, 8);
-    write(b"write 0x050, 4:", 0x50, 4);
-    write(b"write 0x0c0, 2:", 0xc0, 2);
-    write(b"write 0x0c0, 4:", 0xc0, 4);
-    write(b"write 0x0c2, 2:", 0xc2, 2);
-    write(b"write 0x100, 0:", 0x100, 0);
-    write(b"write 0xfff, 8:", 0xfff, 8);
-    write(b"write 0x1000, 4:", 0x1000, 4);
+    say(b"\nwrite 030, 038, 0a4, 050, 0c0 by 4; 038 by 8; 0c0, 0c2 by 2:");
+    write(0x30, 4);
+    write(0x38, 4);
+    write(0xa4, 4);
+    write(0x50, 4);
+    write(0xc0, 4);
+    write(0x38, 8);
+    write(0xc0, 2);
+    write(0xc2, 2);
+    say(b"\nwrite 0x164 by 0, 0xfff by 8, 0x1000 by 4, 0x1030 by 4:");
+    write(0x164, 0);
+    write(0xfff, 8);
+    write(0x1000, 4);
+    write(0x1030, 4);
 }
 
 fn wide(b: u8) -> u64 {
@@ -374,37 +322,38 @@ fn wide(b: u8) -> u64 {
 }
 
 fn bytes() {
+    say(b"\neight bytes written, read as 8, 4, 2; the ninth; then four and two over them:");
     let mut b = [0xeeu8; 9];
     words::write_u64(&mut b, 0x1122_3344_5566_7788);
-    hex(b"eight bytes:", words::read_u64(&b));
-    hex(b"four of them:", words::read_u32(&b) as u64);
-    hex(b"two of them:", words::read_u16(&b) as u64);
-    hex(b"the ninth stays:", wide(b[8]));
+    hex(words::read_u64(&b));
+    hex(words::read_u32(&b) as u64);
+    hex(words::read_u16(&b) as u64);
+    hex(wide(b[8]));
     words::write_u32(&mut b, 0x0102_0304);
     words::write_u16(&mut b, 0xabcd);
-    hex(b"four written, then two:", words::read_u64(&b));
-    words::write_u64(&mut b, 0xffff_ffff_ffff_fffe);
-    hex(b"all bits but the lowest:", words::read_u64(&b));
+    hex(words::read_u64(&b));
 }
 
-fn short_bytes() {
+fn short_reads() {
+    say(b"\n7 bytes read as 8, 3 as 4, 1 as 2, none as 2:");
     let b = [1u8, 2, 3, 4, 5, 6, 7, 8];
-    hex(b"seven bytes, read as eight:", words::read_u64(&b[1..]));
-    hex(
-        b"three bytes, read as four:",
-        words::read_u32(&b[5..]) as u64,
-    );
-    hex(b"one byte, read as two:", words::read_u16(&b[7..]) as u64);
-    hex(b"no byte:", words::read_u16(&b[8..]) as u64);
+    hex(words::read_u64(&b[1..]));
+    hex(words::read_u32(&b[5..]) as u64);
+    hex(words::read_u16(&b[7..]) as u64);
+    hex(words::read_u16(&b[8..]) as u64);
+}
+
+fn short_writes() {
+    say(b"\n8 bytes written to 7, 4 to 3, 2 to 1:");
     let mut seven = [0x11u8; 7];
     words::write_u64(&mut seven, 0xffff_ffff_ffff_ffff);
-    hex(b"eight bytes to seven:", words::read_u32(&seven) as u64);
+    hex(words::read_u32(&seven) as u64);
     let mut three = [0x11u8; 3];
     words::write_u32(&mut three, 0xffff_ffff);
-    hex(b"four bytes to three:", words::read_u16(&three) as u64);
+    hex(words::read_u16(&three) as u64);
     let mut one = [0x11u8; 1];
     words::write_u16(&mut one, 0xffff);
-    hex(b"two bytes to one:", wide(one[0]));
+    hex(wide(one[0]));
 }
 
 fn action(kind: u64) -> Action {
@@ -418,40 +367,36 @@ fn action(kind: u64) -> Action {
 }
 
 fn actions() {
-    let mut w = [9u64; 11];
+    say(b"\n11 words, the place after records 7, 8, 9 and at 2^64 - 1; words 0, 5, 9, 10:");
+    let mut w = [6u64; 11];
     let first = words::append(&mut w, 0, action(7));
-    number(b"the place after one record:", first as u64);
+    dec(first as u64);
     let second = words::append(&mut w, first, action(8));
-    number(b"after two:", second as u64);
-    let third = words::append(&mut w, second, action(9));
-    number(b"after a third, for which one word is left:", third as u64);
-    number(b"the first word:", w[0]);
-    number(b"the tenth:", w[9]);
-    number(b"the eleventh, not written:", w[10]);
-    number(
-        b"at the largest place:",
-        words::append(&mut w, 0xffff_ffff_ffff_ffff, action(9)) as u64,
-    );
-    number(b"the sixth:", w[5]);
+    dec(second as u64);
+    dec(words::append(&mut w, second, action(9)) as u64);
+    dec(words::append(&mut w, 0xffff_ffff_ffff_ffff, action(9)) as u64);
+    dec(w[0]);
+    dec(w[5]);
+    dec(w[9]);
+    dec(w[10]);
 }
 
 fn main() {
-    say(b"queues\n");
+    say(b"the lowest floors");
     sizes();
     fields();
     areas();
     scans();
     indices();
-    say(b"regions, vendor, doorbell, messages\n");
     regions();
     vendors();
     doorbells();
     messages();
-    say(b"registers\n");
     reads();
     writes();
-    say(b"words\n");
     bytes();
-    short_bytes();
+    short_reads();
+    short_writes();
     actions();
+    say(b"\n");
 }
