@@ -2,17 +2,14 @@
 use mathlib.Core.Bool.{Bool, true, false}
 use mathlib.Core.Path.{_≡_, refl, _∙_}
 use mathlib.Core.List.{List, [], _∷_, _++_}
-use Prim.Native.Nat.{ℕ, zero, suc, _+_, _*_, _≤_, max}
+use Prim.Native.Nat.{ℕ, zero, suc, _+_, _*_, _≤_}
 use native.Mathlib.Omega.{arith}
 use lib.ListN.{length, length-append}
 use Rattle.words.specs.Pick.{pick}
 use Rattle.words.proofs.Lists.{length-up, length-down}
 use Rattle.tape.specs.Held.{entry, bell, note, bellAddress, noteAddress, unregister}
+use Rattle.activation.specs.Bound.{most}
 use Rattle.activation.specs.Requests.{Request, Bell, Note, Enable, Activate, requests, reverts, bellsOff, notesOff, wipes, after, asks}
-
--- 2n registrations and a full undo, or the full set with 3, 4, 6 and n unregisters
-abbrev pub most : (n : ℕ) → ℕ
-most n = max (4 * n) (3 * n + 3)
 
 length-reverts : (num a : ℕ) (w : Bool) → length (reverts num a w) ≡ num
 length-reverts num a w = length-down num (λ k. unregister (entry k a 8 (pick w 0 (k + 1))))

@@ -51,7 +51,7 @@ unfolding heldOne
 own-fold b hs k [] q h = refl
 own-fold b hs k (x ∷ xs) q h =
     own-fold b (each (heldQueue b k x) hs) (leftAfter k x) xs q (rw (length-each (heldQueue b k x) hs) h)
-    ∙ ap (λ (e : Held). entryAfter b q e (leftAfter k x) xs) (getD-each (heldQueue b k x) hs q noHeld h)
+    ∙ ap (λ (e : Held). entryAfter b q e (leftAfter k x) xs) (getD-each (heldQueue b k x) hs q noHeld noHeld h)
 
 -- five words behind n records, tested without a product that could wrap
 pub room-by-quotient : (n w : ℕ) → 5 ≤ w → leb n ((w - 5) / 5) ≡ leb (5 * n + 5) w
