@@ -3,15 +3,16 @@ use mathlib.Core.Bool.{Bool, true, false, not, _||_, _&&_, true≢false}
 use mathlib.Core.Path.{_≡_, refl, sym, ap, _∙_}
 use Prim.Native.Nat.{ℕ, _+_, _-_, _^_, _≤_, _<_}
 use native.Mathlib.Omega.{arith}
-use borrow.Author.Tests.{ltb-true, ltb-false, leb-true, eqb-true, eqb-false}
+use borrow.Author.Tests.{ltb-false, leb-true, eqb-true, ne-eqb}
 use lib.Dec.{eqb, ltb, leb}
 use lib.ListN.{getD}
 use Rattle.words.specs.Pick.{pick, below}
 use Rattle.virtq.specs.Index.{maxQueues}
 use Rattle.virtq.specs.Fields.{sizeFit, powerOfTwo}
-use Rattle.mmio_state.specs.Fresh.{refusalOf, queueCount, hasControl, maximaFit, maximumFit}
-use Rattle.mmio_state.specs.State.{maxVectors, maxRegions}
+use Rattle.mmio_state.specs.Fresh.{refusalOf, queueCount, hasControl, maximaFit, maximumFit, freshState, noState, made}
+use Rattle.mmio_state.specs.State.{State, maxVectors, maxRegions}
 use Rattle.mmio_state.specs.declared.Configuration.{Configuration}
+use Rattle.mmio_state.specs.declared.Made.{Made}
 
 pub at-most-one : (b : Bool) → pick b 1 0 ≤ 1
 at-most-one true = omega arith
@@ -72,3 +73,12 @@ small c h =
         second (below (c .dataqueues) (λ (i : ℕ). maximumFit (getD (c .sizes) i 0))) (pick (hasControl c) (maximumFit (c .control)) true) f
         in
         size-at-most 32768 (c .control) (rw e at g)
+
+-- made, or not
+pub made-yes : (c : Configuration) (s : State) → refusalOf c ≡ 0 → s ≡ freshState c → _≡_ {A = Made} (record { refusal = 0; state = s }) (made c)
+unfolding made
+made-yes c s h e = rw (h, e)
+
+pub made-no : (c : Configuration) (n : ℕ) (s : State) → n ≡ refusalOf c → (n ≡ 0 → ⊥) → s ≡ noState → _≡_ {A = Made} (record { refusal = n; state = s }) (made c)
+unfolding made
+made-no c n s h k e = rw (← h, ne-eqb n 0 k, e)

@@ -2,3 +2,4 @@
 pub mod Loops
 pub mod Accepting
 pub mod Operating
+pub mod Tables

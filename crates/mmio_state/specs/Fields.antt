@@ -13,6 +13,7 @@ use Rattle.virtq.specs.declared.Field.the-variants as F
 use Rattle.tape.specs.Actions.{ackFeatures}
 use Rattle.tape.specs.Held.{bell, note, entry, noHeld}
 use Rattle.tape.specs.declared.Entry.{Entry}
+use Rattle.tape.specs.declared.Held.{Held}
 use Rattle.mmio_state.specs.State.{State, queuesIn, maxRegions, withQueues}
 use Rattle.mmio_state.specs.Fresh.{noRegion}
 use Rattle.mmio_state.specs.Effect.{Effect}
@@ -47,12 +48,14 @@ offered s = pick (eqb (s .hot .page) 0) (s .config .page0) (pick (eqb (s .hot .p
 abbrev pub acking : State → (v : ℕ) → Effect
 acking s v = record { state = s; ok = true; actions = ackFeatures (s .hot .ackpage) v ∷ [] }
 
+-- the region of this number, of the first n
+abbrev pub foundAt : List Region → (id n : ℕ) → Found
+foundAt rs id n =
+    pick (ltb id n) (record { there = true; region = getD rs id noRegion }) (record { there = false; region = noRegion })
+
 -- the selected region, if there is one
 abbrev pub selectedRegion : State → Found
-selectedRegion s =
-    pick (ltb (s .hot .region) (min (s .config .regions) maxRegions))
-    (record { there = true; region = getD (s .config .table) (s .hot .region) noRegion })
-    (record { there = false; region = noRegion })
+selectedRegion s = foundAt (s .config .table) (s .hot .region) (min (s .config .regions) maxRegions)
 
 -- "13: question about a field of a queue that isn't there: 0"
 abbrev pub asked : State → (q : ℕ) → Field → Reply
@@ -64,13 +67,13 @@ abbrev pub entryOf : Kind → (base q : ℕ) → Entry
 entryOf Doorbell b q = bell b q
 entryOf Notify b q = note b q
 
-abbrev pub standsIn : Kind → State → (q : ℕ) → Bool
-standsIn Doorbell s q = getD (s .held) q noHeld .bell
-standsIn Notify s q = getD (s .held) q noHeld .note
+abbrev pub standsIn : Kind → Held → Bool
+standsIn Doorbell h = h .bell
+standsIn Notify h = h .note
 
 -- whether a registration stands, and its four operands
 abbrev pub askedHeld : State → (q : ℕ) → Kind → Standing
 askedHeld s q k =
     pick (ltb q (queuesIn s))
-    (record { refusal = 0; stands = standsIn k s q; entry = entryOf k (s .config .base) q })
+    (record { refusal = 0; stands = standsIn k (getD (s .held) q noHeld); entry = entryOf k (s .config .base) q })
     (record { refusal = 13; stands = false; entry = entry 0 0 0 0 })

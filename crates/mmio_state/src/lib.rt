@@ -7,19 +7,22 @@
 ghost use mathlib.Core.Path.{_≡_};
 ghost use mathlib.Core.Bool.{Bool, true, false, not};
 ghost use mathlib.Core.List.{List, [], _∷_};
-ghost use Prim.Native.Nat.{ℕ, _≤_, min};
-ghost use lib.Dec.{eqb};
-ghost use lib.ListN.{length, getD};
+ghost use Prim.Native.Nat.{ℕ, _<_, _≤_, min};
+ghost use lib.Dec.{eqb, ltb};
+ghost use lib.ListN.{length, getD, set};
 ghost use Rattle.words.specs.Pick.{below, pick};
 ghost use Rattle.words.specs.Lists.{each};
 ghost use Rattle.virtq.specs.Index.{maxQueues};
+ghost use Rattle.virtq.specs.Fields.{fieldsOf, noQueue, updated};
+ghost use Rattle.virtq.specs.Events.{first};
+ghost use Rattle.tape.specs.Actions.{act};
 ghost use Rattle.tape.specs.Held.{noHeld};
 ghost use Rattle.tape.specs.Play.{laid};
-ghost use Rattle.mmio_state.specs.State.{failed, selecting, withMode, withStage, withStatus};
+ghost use Rattle.mmio_state.specs.State.{failed, maxRegions, selecting, withMode, withStage, withStatus};
 ghost use Rattle.mmio_state.specs.Effect.{done, ended, refused, written};
 ghost use Rattle.mmio_state.specs.Fresh.{accepted, freshHot, freshQueues, freshState, made, maximumAt, maximumFit, noConfig, noState, noVector, regionAt, refusalOf};
 ghost use Rattle.mmio_state.specs.Activation.{activating, queuesValid, resetting, noFlags, settled, started, wiped, wipedHot};
-ghost use Rattle.mmio_state.specs.Fields.{acking, asked, askedHeld, fieldWritten, offered, selectedMax, selectedReady, selectedRegion};
+ghost use Rattle.mmio_state.specs.Fields.{acking, asked, askedHeld, entryOf, fieldWritten, foundAt, offered, selectedMax, selectedReady, selectedRegion, standsIn};
 use dragonball::Msi;
 use tape::ACTION_ACKED_FEATURES;
 use tape::ACTION_RESET_DEVICE;
@@ -521,6 +524,13 @@ impl Hot {
 
 // ---- the state's parts
 
+// A parameter carries its own range, so that the cast leaves nothing to show.
+fn wide(n: u32) -> usize
+    ensures { λ r. ⌜ r ≡ n ⌝ }
+{
+    n as usize
+}
+
 fn queues_in(count: u32) -> u32
     ensures { λ r. ⌜ r ≡ min count maxQueues ⌝ }
 {
@@ -628,6 +638,330 @@ fn attempt(s: MmioV2DeviceState, k: u32, actions: &mut [u64]) -> Done
         Scan::At(_) => {
             let w = activation::wipe(&mut *actions, t, s.config.base, n, s.flags.registered);
             settle(s, w, false)
+        }
+    }
+}
+
+fn wiped_done(s: MmioV2DeviceState, t: Tape) -> Done
+    ensures { λ r. ⌜ r ≡ record { state = wiped s (t .held); refusal = 0; ok = true; count = t .count } ⌝ }
+{
+    let held = t.held;
+    let u = wipe_state(s, held);
+    Done {
+        state: u,
+        refusal: 0,
+        ok: true,
+        count: t.count,
+    }
+}
+
+fn plain(kind: u64) -> Action
+    ensures { λ r. ⌜ r ≡ act kind 0 0 0 0 ⌝ }
+{
+    Action {
+        kind,
+        a: 0,
+        b: 0,
+        c: 0,
+        d: 0,
+    }
+}
+
+// ---- one entry of a table
+
+fn size_at(sizes: [u16; MAX_QUEUES], q: u32, n: u32) -> u32
+    requires { ⌜ n ≤ maxQueues ⌝ }
+    ensures { λ r. ⌜ r ≡ pick (ltb q n) (getD sizes q 0) 0 ⌝ }
+{
+    if q < n {
+        let at = q as usize;
+        let size = sizes[at];
+        return narrow(size);
+    }
+    0
+}
+
+fn narrow(size: u16) -> u32
+    ensures { λ r. ⌜ r ≡ size ⌝ }
+{
+    size as u32
+}
+
+fn field_at(queues: [Queue; MAX_QUEUES], q: u32, n: u32, f: Field) -> u32
+    requires { ⌜ n ≤ maxQueues ⌝ }
+    ensures { λ r. ⌜ r ≡ first n (fieldsOf queues) q f ⌝ }
+{
+    if q < n {
+        let at = q as usize;
+        let queue = queues[at];
+        return queue.get(f);
+    }
+    0
+}
+
+fn update_at(
+    queues: [Queue; MAX_QUEUES],
+    sizes: [u16; MAX_QUEUES],
+    q: u32,
+    f: Field,
+    v: u32,
+) -> [Queue; MAX_QUEUES]
+    requires { ⌜ q < maxQueues ⌝ }
+    ensures { λ r. ⌜ r ≡ set queues q (updated (getD sizes q 0) (getD queues q noQueue) f v) ⌝ }
+{
+    let at = q as usize;
+    let queue = queues[at];
+    let max = sizes[at];
+    let mut out = queues;
+    out[at] = queue.update(max, f, v);
+    out
+}
+
+fn found_at(table: [Region; MAX_REGIONS], id: u32, n: u32) -> Found
+    ensures { λ r. ⌜ r ≡ foundAt table id (min n maxRegions) ⌝ }
+{
+    let none = Region {
+        offset: 0,
+        length: 0,
+    };
+    if id < n {
+        if id < 8 {
+            let at = id as usize;
+            let region = table[at];
+            return Found {
+                there: true,
+                region,
+            };
+        }
+        return Found {
+            there: false,
+            region: none,
+        };
+    }
+    Found {
+        there: false,
+        region: none,
+    }
+}
+
+fn stands_as(h: Held, k: Kind, base: u64, q: QueueIndex) -> Standing
+    ensures { λ r. ⌜ r ≡ record { refusal = 0; stands = standsIn k h; entry = entryOf k base (q .0) } ⌝ }
+{
+    match k {
+        Kind::Doorbell => Standing {
+            refusal: 0,
+            stands: h.bell,
+            entry: tape::bell_entry(base, q),
+        },
+        Kind::Notify => Standing {
+            refusal: 0,
+            stands: h.note,
+            entry: tape::note_entry(base, q),
+        },
+    }
+}
+
+// Device reset, if the device is active, and the state reset.
+fn shut(s: MmioV2DeviceState, k: u32, actions: &mut [u64]) -> Done
+    requires { ⌜ 320 ≤ length (now actions) ⌝ }
+    ensures { λ r. ⌜ r ≡ ended (resetting s k) ⌝ }
+    ensures { λ r. ⌜ now (actions .exit) ≡ laid (now (actions .entry)) (resetting s k .actions) ⌝ }
+{
+    let held = s.held;
+    let t = tape_of(held, k);
+    let n = queues_in(s.config.count);
+    if s.flags.active {
+        let a = tape::emit(&mut *actions, t, s.config.base, plain(ACTION_RESET_DEVICE));
+        if k == 0 {
+            return Done {
+                state: s,
+                refusal: 0,
+                ok: false,
+                count: a.count,
+            };
+        }
+        let w = activation::wipe(&mut *actions, a, s.config.base, n, s.flags.registered);
+        return wiped_done(s, w);
+    }
+    let w = activation::wipe(&mut *actions, t, s.config.base, n, s.flags.registered);
+    wiped_done(s, w)
+}
+
+impl MmioV2DeviceState {
+    /// A fresh state, or the refusal's number: 2 to 6.
+    pub fn new(c: Configuration) -> Made
+        ensures { λ r. ⌜ r ≡ made c ⌝ }
+    {
+        let refusal = refusal_of(c);
+        if refusal == 0 {
+            let s = fresh_state(c);
+            return Made {
+                refusal: 0,
+                state: s,
+            };
+        }
+        let none = no_state();
+        Made {
+            refusal,
+            state: none,
+        }
+    }
+
+    /// Validity, registrations, interrupts enabled, the device activated; after a refusal what is undone, and the state
+    /// reset.
+    pub fn activate(self, k: u32, actions: &mut [u64]) -> Done
+        ensures { λ r. ⌜ r ≡ done (length (now (actions .entry))) self (activating self k) ⌝ }
+        ensures { λ r. ⌜ now (actions .exit) ≡ written (now (actions .entry)) (activating self k) ⌝ }
+    {
+        if actions.len() < ACTION_WORDS {
+            return refuse(self);
+        }
+        if self.flags.active {
+            return Done {
+                state: self,
+                refusal: 0,
+                ok: true,
+                count: 0,
+            };
+        }
+        attempt(self, k, actions)
+    }
+
+    /// The device's own reset, asked if it is active, and then the state's.
+    pub fn reset(self, k: u32, actions: &mut [u64]) -> Done
+        ensures { λ r. ⌜ r ≡ done (length (now (actions .entry))) self (resetting self k) ⌝ }
+        ensures { λ r. ⌜ now (actions .exit) ≡ written (now (actions .entry)) (resetting self k) ⌝ }
+    {
+        if actions.len() < ACTION_WORDS {
+            return refuse(self);
+        }
+        shut(self, k, actions)
+    }
+
+    /// Whether every queue may be started.
+    pub fn check_queues_valid(self) -> bool
+        ensures { λ r. ⌜ r ≡ queuesValid self ⌝ }
+    {
+        let queues = self.queues;
+        match virtq::first_invalid(queues, wide(self.config.count), self.config.memory) {
+            Scan::All => true,
+            Scan::At(_) => false,
+        }
+    }
+
+    /// The maximum size of the selected queue, 0 if there is none: 034.
+    pub fn queue_max(self) -> u32
+        ensures { λ r. ⌜ r ≡ selectedMax self ⌝ }
+    {
+        let sizes = self.config.sizes;
+        size_at(sizes, self.hot.queue, queues_in(self.config.count))
+    }
+
+    /// Whether the selected queue is ready, 0 if there is none: 044.
+    pub fn queue_ready(self) -> u32
+        ensures { λ r. ⌜ r ≡ selectedReady self ⌝ }
+    {
+        let queues = self.queues;
+        field_at(
+            queues,
+            self.hot.queue,
+            queues_in(self.config.count),
+            Field::Ready,
+        )
+    }
+
+    /// A write to a queue-field register that the status lets through.
+    pub fn with_queue_mut(self, f: Field, v: u32) -> Self
+        ensures { λ r. ⌜ r ≡ fieldWritten self f v ⌝ }
+    {
+        let queues = self.queues;
+        let sizes = self.config.sizes;
+        if self.hot.queue < queues_in(self.config.count) {
+            let out = update_at(queues, sizes, self.hot.queue, f, v);
+            let mut u = self;
+            u.queues = out;
+            return u;
+        }
+        self
+    }
+
+    /// The features of the selected page, as they were given.
+    pub fn get_avail_features(self) -> u32
+        ensures { λ r. ⌜ r ≡ offered self ⌝ }
+    {
+        if self.hot.page == 0 {
+            return self.config.page0;
+        }
+        if self.hot.page == 1 {
+            return self.config.page1;
+        }
+        0
+    }
+
+    /// The selected region, if there is one.
+    pub fn get_shm_field(self) -> Found
+        ensures { λ r. ⌜ r ≡ selectedRegion self ⌝ }
+    {
+        let table = self.config.table;
+        found_at(table, self.hot.region, self.config.regions)
+    }
+
+    /// What a field of a queue holds, or refusal 13.
+    pub fn field(self, q: QueueIndex, f: Field) -> Reply
+        ensures { λ r. ⌜ r ≡ asked self (q .0) f ⌝ }
+    {
+        let n = queues_in(self.config.count);
+        let queues = self.queues;
+        let value = field_at(queues, q.0, n, f);
+        if q.0 < n {
+            return Reply { refusal: 0, value };
+        }
+        Reply { refusal: 13, value }
+    }
+
+    /// Whether a queue's registration stands and what it is made with, or refusal 13.
+    pub fn held_entry(self, q: QueueIndex, k: Kind) -> Standing
+        ensures { λ r. ⌜ r ≡ askedHeld self (q .0) k ⌝ }
+    {
+        if q.0 < queues_in(self.config.count) {
+            let at = q.0 as usize;
+            let h = self.held[at];
+            return stands_as(h, k, self.config.base, q);
+        }
+        let none = Entry {
+            queue: 0,
+            address: 0,
+            width: 0,
+            value: 0,
+        };
+        Standing {
+            refusal: 13,
+            stands: false,
+            entry: none,
+        }
+    }
+
+    /// Action 11: the acknowledged features of the selected page.
+    pub fn set_acked_features(self, v: u32, actions: &mut [u64]) -> Done
+        ensures { λ r. ⌜ r ≡ done (length (now (actions .entry))) self (acking self v) ⌝ }
+        ensures { λ r. ⌜ now (actions .exit) ≡ written (now (actions .entry)) (acking self v) ⌝ }
+    {
+        if actions.len() < ACTION_WORDS {
+            return refuse(self);
+        }
+        let x = Action {
+            kind: ACTION_ACKED_FEATURES,
+            a: self.hot.ackpage as u64,
+            b: v as u64,
+            c: 0,
+            d: 0,
+        };
+        words::append(actions, 0, x);
+        Done {
+            state: self,
+            refusal: 0,
+            ok: true,
+            count: 1,
         }
     }
 }
