@@ -4,12 +4,13 @@ use mathlib.Core.Path.{_≡_, refl, _∙_}
 use mathlib.Core.List.{List, [], _∷_, _++_}
 use Prim.Native.Nat.{ℕ, zero, suc, _+_, _*_, _≤_}
 use native.Mathlib.Omega.{arith}
+use lib.Dec.{eqb·suc-zero}
 use lib.ListN.{length, length-append}
 use Rattle.words.specs.Pick.{pick}
 use Rattle.words.proofs.Lists.{length-up, length-down}
 use Rattle.tape.specs.Held.{entry, bell, note, bellAddress, noteAddress, unregister}
 use Rattle.activation.specs.Bound.{most}
-use Rattle.activation.specs.Requests.{Request, Bell, Note, Enable, Activate, requests, reverts, bellsOff, notesOff, wipes, after, asks}
+use Rattle.activation.specs.Requests.{Request, Bell, Note, Enable, Activate, requests, reverts, bellsOff, notesOff, wipes, after, asks, startRecords, stopRecords}
 
 length-reverts : (num a : ℕ) (w : Bool) → length (reverts num a w) ≡ num
 length-reverts num a w = length-down num (λ k. unregister (entry k a 8 (pick w 0 (k + 1))))
@@ -59,6 +60,16 @@ asked-most b false n k = omega (arith, asks-most b false n 0 n k (omega arith))
 pub wipes-most : (b : ℕ) (d : Bool) (n : ℕ) (full : Bool) → length (wipes b d n full) ≤ n + 1
 wipes-most b d n true = omega (arith, length-notes b d n)
 wipes-most b d n false = omega arith
+
+-- the two whole operations
+pub start-most : (b : ℕ) (d : Bool) (n : ℕ) (full valid : Bool) (k : ℕ) → length (startRecords b d n full valid k) ≤ most n
+start-most b d n full true k = asked-most b d n k
+start-most b d n full false k = omega (arith, wipes-most b d n full)
+
+pub stop-most : (b n : ℕ) (full active : Bool) (k : ℕ) → length (stopRecords b n full active k) ≤ most n
+stop-most b n full true zero = omega arith
+stop-most b n full true (suc k) = rw (eqb·suc-zero k) (omega (arith, wipes-most b true n full))
+stop-most b n full false k = omega (arith, wipes-most b true n full)
 
 -- the bound is met: 16 queues with a doorbell, the last notify refused
 pub bound-met : length (asks 0 true 16 31 (requests true 0 16)) ≡ 64

@@ -1,12 +1,13 @@
 -- The requests of an activation in 01's order, what follows the one that is refused, and the records of a state reset (01,
 -- Actions and State reset). No state: only the window's base, the doorbell setting and the number of queues.
-use mathlib.Core.Bool.{Bool, true, false}
+use mathlib.Core.Bool.{Bool, true, false, not}
 use mathlib.Core.List.{List, [], _∷_, _++_}
 use Prim.Native.Nat.{ℕ, zero, suc, _+_}
+use lib.Dec.{eqb}
 use Rattle.words.specs.Pick.{pick}
 use Rattle.words.specs.Lists.{up, down}
 use Rattle.words.specs.declared.Action.{Action}
-use Rattle.tape.specs.Actions.{enableInterrupts, activateDevice, resetInterrupts}
+use Rattle.tape.specs.Actions.{enableInterrupts, activateDevice, resetDevice, resetInterrupts}
 use Rattle.tape.specs.Held.{entry, bell, note, bellAddress, noteAddress, register, unregister}
 
 pub data Request : Type 0 where
@@ -72,3 +73,22 @@ abbrev pub starts : (k : ℕ) → List Request → Bool
 starts k [] = true
 starts zero (x ∷ xs) = false
 starts (suc k) (x ∷ xs) = starts k xs
+
+-- ---- a start and a stop, whole
+
+-- "validity, then for each queue ..": the records of a start, if `valid` says that the queues are, and `full` whether a full
+-- set stands already; and whether it starts
+abbrev pub startRecords : (b : ℕ) (d : Bool) (n : ℕ) (full valid : Bool) (k : ℕ) → List Action
+startRecords b d n full valid k = pick valid (asks b d n k (requests d 0 n)) (wipes b d n full)
+
+abbrev pub begins : (d : Bool) (n : ℕ) (valid : Bool) (k : ℕ) → Bool
+begins d n valid k = pick valid (starts k (requests d 0 n)) false
+
+-- "If active: ask device reset; .. Accepted: .. state reset": the records, and whether it is reset. One that is not active
+-- is not asked.
+abbrev pub stopRecords : (b n : ℕ) (full active : Bool) (k : ℕ) → List Action
+stopRecords b n full active k =
+    pick active (resetDevice ∷ pick (eqb k 0) [] (wipes b true n full)) (wipes b true n full)
+
+abbrev pub stops : (active : Bool) (k : ℕ) → Bool
+stops active k = pick active (not (eqb k 0)) true

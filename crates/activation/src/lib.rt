@@ -11,10 +11,11 @@ ghost use Rattle.words.specs.Pick.{pick};
 ghost use Rattle.tape.specs.Actions.{act};
 ghost use Rattle.tape.specs.Held.{bell, entry, note, register, unregister};
 ghost use Rattle.tape.specs.Play.{Played};
-ghost use Rattle.activation.specs.Requests.{Bell, Note, after, asks, bellsOff, lasts, notesOff, requests, reverts, starts, wipes};
+ghost use Rattle.activation.specs.Requests.{Bell, Note, after, asks, begins, bellsOff, lasts, notesOff, requests, reverts, startRecords, starts, stopRecords, stops, wipes};
 ghost use Rattle.activation.specs.Ties.{Began, Gone, Turned, follow, goes};
 use tape::ACTION_ACTIVATE;
 use tape::ACTION_ENABLE_INTERRUPTS;
+use tape::ACTION_RESET_DEVICE;
 use tape::ACTION_RESET_INTERRUPTS;
 use tape::Entry;
 use tape::Tape;
@@ -207,8 +208,8 @@ fn unregister_ioevent_doorbell(actions: &mut [u64], t: Tape, base: u64, n: u32) 
     u
 }
 
-/// The records of a state reset: interrupts reset, and the notifies unregistered if a full set was accepted.
-pub fn wipe(actions: &mut [u64], t: Tape, base: u64, n: u32, full: bool) -> Tape
+// The records of a state reset: interrupts reset, and the notifies unregistered if a full set was accepted.
+fn wipe(actions: &mut [u64], t: Tape, base: u64, n: u32, full: bool) -> Tape
     ensures { λ r. ⌜ Played base (now (actions .entry)) t (wipes base true n full) (now (actions .exit)) r ⌝ }
 {
     let u = tape::emit(&mut *actions, t, base, plain(ACTION_RESET_INTERRUPTS));
@@ -290,12 +291,50 @@ fn finish(actions: &mut [u64], r: Tried, base: u64, bell: bool, n: u32) -> Begun
     }
 }
 
-/// All that an activation asks once the queues were found valid; and if a request is refused, what is undone and the
-/// records of the state reset.
-pub fn attempt(actions: &mut [u64], t: Tape, base: u64, bell: bool, n: u32) -> Begun
+// All that an activation asks once the queues were found valid; and if a request is refused, what is undone and the records
+// of the state reset.
+fn attempt(actions: &mut [u64], t: Tape, base: u64, bell: bool, n: u32) -> Begun
     ensures { λ e. ⌜ Played base (now (actions .entry)) t (asks base bell n (t .left) (requests bell 0 n)) (now (actions .exit)) (e .tape) ⌝ }
     ensures { λ e. ⌜ e .ok ≡ starts (t .left) (requests bell 0 n) ⌝ }
 {
     let r = register_ioevent(&mut *actions, t, base, bell, n);
     finish(&mut *actions, r, base, bell, n)
+}
+
+/// The records of an activation, and whether every request was accepted. `valid` says whether the queues may be started,
+/// `full` whether a full set of registrations stands.
+pub fn start(
+    actions: &mut [u64],
+    t: Tape,
+    base: u64,
+    bell: bool,
+    n: u32,
+    full: bool,
+    valid: bool,
+) -> Begun
+    ensures { λ e. ⌜ Played base (now (actions .entry)) t (startRecords base bell n full valid (t .left)) (now (actions .exit)) (e .tape) ⌝ }
+    ensures { λ e. ⌜ e .ok ≡ begins bell n valid (t .left) ⌝ }
+{
+    if valid {
+        return attempt(&mut *actions, t, base, bell, n);
+    }
+    let w = wipe(&mut *actions, t, base, n, full);
+    Begun { tape: w, ok: false }
+}
+
+/// The records of a reset: the device's own if it is active, and unless that is refused the state's.
+pub fn stop(actions: &mut [u64], t: Tape, base: u64, n: u32, full: bool, active: bool) -> Begun
+    ensures { λ e. ⌜ Played base (now (actions .entry)) t (stopRecords base n full active (t .left)) (now (actions .exit)) (e .tape) ⌝ }
+    ensures { λ e. ⌜ e .ok ≡ stops active (t .left) ⌝ }
+{
+    if active {
+        let a = tape::emit(&mut *actions, t, base, plain(ACTION_RESET_DEVICE));
+        if t.left == 0 {
+            return Begun { tape: a, ok: false };
+        }
+        let w = wipe(&mut *actions, a, base, n, full);
+        return Begun { tape: w, ok: true };
+    }
+    let w = wipe(&mut *actions, t, base, n, full);
+    Begun { tape: w, ok: true }
 }

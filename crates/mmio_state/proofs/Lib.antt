@@ -1,5 +1,0 @@
--- How the code comes to the definitions, what they come to on real states, and what each promise determines.
-pub mod Loops
-pub mod Accepting
-pub mod Operating
-pub mod Tables
