@@ -24,6 +24,8 @@ use Rattle.mmio_parts.proofs.vector_exists.Reads as vector-exists-promi
 use Rattle.mmio_parts.proofs.store_at.Reads as store-at-promise
 use Rattle.mmio_parts.proofs.is_masked.Reads as is-masked-promise
 use Rattle.mmio_parts.proofs.mask_at.Reads as mask-at-promise
+use Rattle.mmio_parts.proofs.csr_of.Reads as csr-of-promise
+use Rattle.mmio_parts.proofs.command_at.Reads as command-at-promise
 
 pub fresh-hot-determined : (κs : _) (a : _) (r r′ : _) (s s′ : _) → fresh-hot-promise.Post κs a r s → fresh-hot-promise.Post κs a r′ s′ → r ≡ r′
 fresh-hot-determined κs a r r′ s s′ p q = p ∙ sym q
@@ -96,3 +98,9 @@ is-masked-determined κs a r r′ s s′ p q = p ∙ sym q
 
 pub mask-at-determined : (κs : _) (a : _) (r r′ : _) (s s′ : _) → mask-at-promise.Post κs a r s → mask-at-promise.Post κs a r′ s′ → r ≡ r′
 mask-at-determined κs a r r′ s s′ p q = p ∙ sym q
+
+pub csr-of-determined : (κs : _) (a : _) (r r′ : _) (s s′ : _) → csr-of-promise.Post κs a r s → csr-of-promise.Post κs a r′ s′ → r ≡ r′
+csr-of-determined κs a r r′ s s′ p q = p ∙ sym q
+
+pub command-at-determined : (κs : _) (a : _) (r r′ : _) (s s′ : _) → command-at-promise.Post κs a r s → command-at-promise.Post κs a r′ s′ → r ≡ r′
+command-at-determined κs a r r′ s s′ p q = p ∙ sym q

@@ -2,4 +2,5 @@
 pub mod Loops
 pub mod Accepting
 pub mod Tables
+pub mod Messaging
 pub mod Determined

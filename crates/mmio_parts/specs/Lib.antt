@@ -2,3 +2,4 @@
 pub mod Polled
 pub mod Fresh
 pub mod Tables
+pub mod Commands

@@ -12,9 +12,13 @@ ghost use Rattle.words.specs.Pick.{below, pick};
 ghost use Rattle.words.specs.Lists.{each};
 ghost use Rattle.virtq.specs.Index.{maxQueues};
 ghost use Rattle.tape.specs.Held.{noHeld};
+ghost use Rattle.mmio_parts.specs.Commands.{commandAt, csrOf};
 ghost use Rattle.mmio_parts.specs.Fresh.{accepted, configured, freshHot, freshQueues, maximumAt, maximumFit, noConfig, noFlags, noVector, regionAt, refusalOf};
 ghost use Rattle.mmio_parts.specs.Polled.{failed, selecting, withMode, withStatus, wipedHot};
 ghost use Rattle.mmio_parts.specs.Tables.{counted, entryOf, fieldAt, foundAt, maskedAt, sizeAt, standingAt, standsIn, storedAt, updatable, updatedAt, validAll, vectorAt};
+use dragonball::MMIO_MSI_CMD_CODE_INT_MASK;
+use dragonball::MMIO_MSI_CMD_CODE_INT_UNMASK;
+use dragonball::MMIO_MSI_CMD_CODE_UPDATE;
 use dragonball::Msi;
 use tape::Entry;
 use tape::Held;
@@ -143,6 +147,21 @@ pub struct Standing {
     pub refusal: u32,
     pub stands: bool,
     pub entry: Entry,
+}
+
+/// What a write to the control register asks for.
+pub enum Csr {
+    Locked,
+    Stay,
+    Turn(bool),
+}
+
+/// What a message command asks for.
+pub enum Command {
+    Update(VectorIndex),
+    Mask(VectorIndex),
+    Unmask(VectorIndex),
+    Other,
 }
 
 // ---- from a configuration
@@ -683,4 +702,40 @@ pub fn mask_at(vectors: [Vector; MAX_VECTORS], v: VectorIndex, m: bool) -> [Vect
         return out;
     }
     vectors
+}
+
+// ---- the message registers
+
+/// What a write to the MSI control and status register asks for.
+pub fn csr_of(status: u32, v: u16, msi: bool) -> Csr
+    ensures { λ r. ⌜ r ≡ csrOf status v msi ⌝ }
+{
+    if status / 4 % 2 == 1 {
+        return Csr::Locked;
+    }
+    if v / 32768 % 2 == 1 {
+        if msi {
+            return Csr::Stay;
+        }
+        return Csr::Turn(true);
+    }
+    if msi {
+        return Csr::Turn(false);
+    }
+    Csr::Stay
+}
+
+/// What a write to the MSI command register asks for.
+pub fn command_at(v: u16) -> Command
+    ensures { λ r. ⌜ r ≡ commandAt v ⌝ }
+{
+    let m = dragonball::msi_command(v);
+    let code = m.code;
+    let vector = VectorIndex(m.argument as u64);
+    match code {
+        MMIO_MSI_CMD_CODE_UPDATE => Command::Update(vector),
+        MMIO_MSI_CMD_CODE_INT_MASK => Command::Mask(vector),
+        MMIO_MSI_CMD_CODE_INT_UNMASK => Command::Unmask(vector),
+        _ => Command::Other,
+    }
 }
