@@ -1,3 +1,3 @@
 -- How the code comes to the definitions, what they come to on real states, and what each promise determines.
 pub mod Operating
-pub mod Messaging
+pub mod Determined

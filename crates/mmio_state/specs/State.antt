@@ -5,6 +5,7 @@ use Prim.Native.Nat.{ℕ}
 use Rattle.virtq.specs.declared.Queue.{Queue}
 use Rattle.dragonball.specs.declared.Msi.{Msi}
 use Rattle.tape.specs.declared.Held.{Held}
+use Rattle.mmio_parts.specs.Polled.{failed, withStatus}
 use Rattle.mmio_parts.specs.Tables.{counted}
 use Rattle.mmio_parts.specs.declared.Hot.{Hot}
 use Rattle.mmio_parts.specs.declared.Flags.{Flags}
@@ -65,3 +66,7 @@ withVectors s m vs =
       held = s .held;
       vectors = vs;
     }
+
+-- FAILED set
+abbrev pub failedState : State → State
+failedState s = withHot s (withStatus (s .hot) (failed (s .hot .status)))

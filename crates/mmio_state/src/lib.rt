@@ -5,26 +5,21 @@
 //! the action list; `k` says how many answered requests are accepted.
 
 ghost use mathlib.Core.Path.{_≡_};
-ghost use mathlib.Core.Bool.{Bool, true, false, not, _&&_};
+ghost use mathlib.Core.Bool.{Bool, true, false};
 ghost use mathlib.Core.List.{List, [], _∷_};
-ghost use Prim.Native.Nat.{ℕ, _%_, _^_, _<_, _≤_};
+ghost use Prim.Native.Nat.{ℕ, _≤_};
 ghost use lib.ListN.{length};
 ghost use Rattle.words.specs.Pick.{pick};
-ghost use Rattle.tape.specs.Actions.{ackFeatures, act, setMode};
+ghost use Rattle.tape.specs.Actions.{ackFeatures};
 ghost use Rattle.tape.specs.Play.{laid};
-ghost use Rattle.dragonball.specs.Messages.{withAddressHigh, withAddressLow, withData};
-ghost use Rattle.mmio_parts.specs.Tables.{updatable, vectorAt};
-ghost use Rattle.mmio_state.specs.State.{withVectors};
-ghost use Rattle.mmio_state.specs.Effect.{done, ended, quiet, refused, written};
+ghost use Rattle.mmio_state.specs.State.{failedState};
+ghost use Rattle.mmio_state.specs.Effect.{done, ended, refused, written};
 ghost use Rattle.mmio_state.specs.Fresh.{begun, made, noHot};
 ghost use Rattle.mmio_state.specs.Activation.{activating, queuesValid, resetting, settled, started, wiped};
-ghost use Rattle.mmio_state.specs.Messages.{asksMask, commanded, commanding, controlled, enabling, failedState, masking, staged, turned, updatedState};
 ghost use Rattle.mmio_state.specs.Fields.{acking, asked, askedHeld, fieldWritten, offered, selectedMax, selectedReady, selectedRegion};
 use dragonball::Msi;
-use mmio_parts::Command;
 use mmio_parts::Config;
 use mmio_parts::Configuration;
-use mmio_parts::Csr;
 use mmio_parts::Flags;
 use mmio_parts::Found;
 use mmio_parts::Hot;
@@ -34,17 +29,12 @@ use mmio_parts::Reply;
 use mmio_parts::Standing;
 use mmio_parts::Vector;
 use tape::ACTION_ACKED_FEATURES;
-use tape::ACTION_MASK;
-use tape::ACTION_MODE;
-use tape::ACTION_UNMASK;
-use tape::ACTION_UPDATE;
 use tape::Held;
 use tape::Tape;
 use virtq::Field;
 use virtq::MAX_QUEUES;
 use virtq::Queue;
 use virtq::QueueIndex;
-use virtq::VectorIndex;
 use words::Action;
 
 /// The words that every operation must be lent: five for each of the most records it can ask.
@@ -160,7 +150,8 @@ fn settle(s: MmioV2DeviceState, t: Tape, ok: bool) -> Done
     }
 }
 
-fn refuse(s: MmioV2DeviceState) -> Done
+/// Refusal 7: the state as it was.
+pub fn refuse(s: MmioV2DeviceState) -> Done
     ensures { λ r. ⌜ r ≡ refused s ⌝ }
 {
     Done {
@@ -258,225 +249,6 @@ fn acked(page: u32, v: u32) -> Action
     }
 }
 
-// ---- messages
-
-fn told(kind: u64, v: u64) -> Action
-    ensures { λ r. ⌜ r ≡ act kind v 0 0 0 ⌝ }
-{
-    Action {
-        kind,
-        a: v,
-        b: 0,
-        c: 0,
-        d: 0,
-    }
-}
-
-fn quiet_done(s: MmioV2DeviceState, ok: bool) -> Done
-    ensures { λ r. ⌜ r ≡ ended (quiet s ok) ⌝ }
-{
-    Done {
-        state: s,
-        refusal: 0,
-        ok,
-        count: 0,
-    }
-}
-
-fn failed_state(s: MmioV2DeviceState) -> MmioV2DeviceState
-    ensures { λ r. ⌜ r ≡ failedState s ⌝ }
-{
-    let hot = s.hot;
-    let failed = hot.fail();
-    let mut u = s;
-    u.hot = failed;
-    u
-}
-
-fn staged(s: MmioV2DeviceState, m: Msi) -> MmioV2DeviceState
-    ensures { λ r. ⌜ r ≡ staged s m ⌝ }
-{
-    if s.hot.msi {
-        let mut u = s;
-        u.stage = m;
-        return u;
-    }
-    s
-}
-
-fn turned(s: MmioV2DeviceState, msi: bool) -> MmioV2DeviceState
-    ensures { λ r. ⌜ r ≡ turned s msi ⌝ }
-{
-    let none = Msi::default();
-    let mut u = s;
-    u.hot.msi = msi;
-    u.stage = none;
-    u
-}
-
-fn mode(msi: bool) -> u64
-    ensures { λ r. ⌜ r ≡ pick msi 1 0 ⌝ }
-{
-    if msi {
-        return 1;
-    }
-    0
-}
-
-// One request: what is kept of it depends on its answer.
-fn turn(s: MmioV2DeviceState, msi: bool, k: u32, actions: &mut [u64]) -> Done
-    requires { ⌜ 320 ≤ length (now actions) ⌝ }
-    ensures { λ r. ⌜ r ≡ ended (controlled s k (Csr.Turn msi)) ⌝ }
-    ensures { λ r. ⌜ now (actions .exit) ≡ laid (now (actions .entry)) (setMode msi ∷ []) ⌝ }
-{
-    words::append(actions, 0, told(ACTION_MODE, mode(msi)));
-    if k == 0 {
-        let u = failed_state(s);
-        return Done {
-            state: u,
-            refusal: 0,
-            ok: false,
-            count: 1,
-        };
-    }
-    let u = turned(s, msi);
-    Done {
-        state: u,
-        refusal: 0,
-        ok: true,
-        count: 1,
-    }
-}
-
-fn heeded(dataqueues: u32, msi: bool, v: VectorIndex) -> bool
-    ensures { λ r. ⌜ r ≡ updatable dataqueues (v .0) && msi ⌝ }
-{
-    if mmio_parts::may_update(dataqueues, v) {
-        return msi;
-    }
-    false
-}
-
-fn with_vectors(s: MmioV2DeviceState, m: Msi, vectors: [Vector; MAX_VECTORS]) -> MmioV2DeviceState
-    ensures { λ r. ⌜ r ≡ withVectors s m vectors ⌝ }
-{
-    let mut u = s;
-    u.stage = m;
-    u.vectors = vectors;
-    u
-}
-
-// A command's argument has twelve bits.
-fn index_of(v: VectorIndex) -> u32
-    ensures { λ r. ⌜ r ≡ v .0 % 2 ^ 32 ⌝ }
-{
-    (v.0 % 0x1_0000_0000) as u32
-}
-
-// The index kept, and the message stored if the vector exists.
-fn update_state(s: MmioV2DeviceState, v: VectorIndex) -> MmioV2DeviceState
-    requires { ⌜ v .0 < 4096 ⌝ }
-    ensures { λ r. ⌜ r ≡ updatedState s (v .0) ⌝ }
-{
-    if heeded(s.config.dataqueues, s.hot.msi, v) {
-        let stage = s.stage;
-        let m = stage.with_index_select(index_of(v));
-        let vectors = s.vectors;
-        if mmio_parts::vector_exists(v, s.config.vectors) {
-            return with_vectors(s, m, mmio_parts::store_at(vectors, v, m));
-        }
-        return with_vectors(s, m, vectors);
-    }
-    s
-}
-
-fn asks_update(c: Config, msi: bool, enabled: bool, v: VectorIndex) -> bool
-    ensures { λ r. ⌜ r ≡ ((updatable (c .dataqueues) (v .0) && msi) && vectorAt (v .0) (c .vectors)) && enabled ⌝ }
-{
-    if heeded(c.dataqueues, msi, v) {
-        if mmio_parts::vector_exists(v, c.vectors) {
-            return enabled;
-        }
-        return false;
-    }
-    false
-}
-
-fn update_msi_cfg(s: MmioV2DeviceState, v: VectorIndex, k: u32, actions: &mut [u64]) -> Done
-    requires { ⌜ (320 ≤ length (now actions)) × (v .0 < 4096) ⌝ }
-    ensures { λ r. ⌜ r ≡ ended (commanded s k (Command.Update v)) ⌝ }
-    ensures { λ r. ⌜ now (actions .exit) ≡ laid (now (actions .entry)) (commanded s k (Command.Update v) .actions) ⌝ }
-{
-    let u = update_state(s, v);
-    let config = s.config;
-    if asks_update(config, s.hot.msi, s.flags.enabled, v) {
-        words::append(actions, 0, told(ACTION_UPDATE, v.0));
-        return Done {
-            state: u,
-            refusal: 0,
-            ok: k != 0,
-            count: 1,
-        };
-    }
-    Done {
-        state: u,
-        refusal: 0,
-        ok: true,
-        count: 0,
-    }
-}
-
-fn asks_mask(s: MmioV2DeviceState, v: VectorIndex, mask: bool) -> bool
-    ensures { λ r. ⌜ r ≡ asksMask s (v .0) mask ⌝ }
-{
-    let vectors = s.vectors;
-    if s.flags.enabled {
-        if mmio_parts::vector_exists(v, s.config.vectors) {
-            if mmio_parts::is_masked(vectors, v) {
-                return !mask;
-            }
-            return mask;
-        }
-        return false;
-    }
-    false
-}
-
-fn mask_msi_int(
-    s: MmioV2DeviceState,
-    v: VectorIndex,
-    mask: bool,
-    kind: u64,
-    k: u32,
-    actions: &mut [u64],
-) -> Done
-    requires { ⌜ 320 ≤ length (now actions) ⌝ }
-    ensures { λ r. ⌜ r ≡ ended (masking s (v .0) mask (act kind (v .0) 0 0 0) k) ⌝ }
-    ensures { λ r. ⌜ now (actions .exit) ≡ laid (now (actions .entry)) (masking s (v .0) mask (act kind (v .0) 0 0 0) k .actions) ⌝ }
-{
-    if asks_mask(s, v, mask) {
-        words::append(actions, 0, told(kind, v.0));
-        if k == 0 {
-            return Done {
-                state: s,
-                refusal: 0,
-                ok: false,
-                count: 1,
-            };
-        }
-        let vectors = s.vectors;
-        let stage = s.stage;
-        let u = with_vectors(s, stage, mmio_parts::mask_at(vectors, v, mask));
-        return Done {
-            state: u,
-            refusal: 0,
-            ok: true,
-            count: 1,
-        };
-    }
-    quiet_done(s, true)
-}
-
 impl MmioV2DeviceState {
     /// A fresh state, or the refusal's number: 2 to 6.
     pub fn new(c: Configuration) -> Made
@@ -535,26 +307,15 @@ impl MmioV2DeviceState {
         }
     }
 
-    /// The staged address, low and high, and data: kept only while MSI is on.
-    pub fn set_msi_address_low(self, v: u32) -> Self
-        ensures { λ r. ⌜ r ≡ staged self (withAddressLow (self .stage) v) ⌝ }
+    /// FAILED set.
+    pub fn set_driver_failed(self) -> Self
+        ensures { λ r. ⌜ r ≡ failedState self ⌝ }
     {
-        let stage = self.stage;
-        staged(self, stage.with_address_low(v))
-    }
-
-    pub fn set_msi_address_high(self, v: u32) -> Self
-        ensures { λ r. ⌜ r ≡ staged self (withAddressHigh (self .stage) v) ⌝ }
-    {
-        let stage = self.stage;
-        staged(self, stage.with_address_high(v))
-    }
-
-    pub fn set_msi_data(self, v: u32) -> Self
-        ensures { λ r. ⌜ r ≡ staged self (withData (self .stage) v) ⌝ }
-    {
-        let stage = self.stage;
-        staged(self, stage.with_data(v))
+        let hot = self.hot;
+        let failed = hot.fail();
+        let mut u = self;
+        u.hot = failed;
+        u
     }
 
     /// The device's own reset, asked if it is active, and then the state's.
@@ -635,43 +396,6 @@ impl MmioV2DeviceState {
     {
         let table = self.config.table;
         mmio_parts::found_at(table, self.hot.region, self.config.regions)
-    }
-
-    /// The interrupt mode: 0c0.
-    pub fn update_msi_enable(self, v: u16, k: u32, actions: &mut [u64]) -> Done
-        ensures { λ r. ⌜ r ≡ done (length (now (actions .entry))) self (enabling self v k) ⌝ }
-        ensures { λ r. ⌜ now (actions .exit) ≡ written (now (actions .entry)) (enabling self v k) ⌝ }
-    {
-        if actions.len() < ACTION_WORDS {
-            return refuse(self);
-        }
-        match mmio_parts::csr_of(self.hot.status, v, self.hot.msi) {
-            Csr::Locked => {
-                let u = failed_state(self);
-                quiet_done(u, false)
-            }
-            Csr::Stay => quiet_done(self, true),
-            Csr::Turn(m) => turn(self, m, k, actions),
-        }
-    }
-
-    /// A message command: 0c2.
-    pub fn handle_msi_cmd(self, v: u16, k: u32, actions: &mut [u64]) -> Done
-        ensures { λ r. ⌜ r ≡ done (length (now (actions .entry))) self (commanding self v k) ⌝ }
-        ensures { λ r. ⌜ now (actions .exit) ≡ written (now (actions .entry)) (commanding self v k) ⌝ }
-    {
-        if actions.len() < ACTION_WORDS {
-            return refuse(self);
-        }
-        match mmio_parts::command_at(v) {
-            Command::Update(w) => update_msi_cfg(self, w, k, actions),
-            Command::Mask(w) => mask_msi_int(self, w, true, ACTION_MASK, k, actions),
-            Command::Unmask(w) => mask_msi_int(self, w, false, ACTION_UNMASK, k, actions),
-            Command::Other => {
-                let u = failed_state(self);
-                quiet_done(u, false)
-            }
-        }
     }
 
     /// What a field of a queue holds, or refusal 13.

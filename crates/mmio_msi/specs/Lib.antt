@@ -1,0 +1,2 @@
+-- Messages: the mode, the staged message, the commands.
+pub mod Messages
