@@ -225,7 +225,7 @@ fn idle_commands() {
 }
 
 fn running_commands() {
-    say(b"\nstarted, 0x1002, refused; mask 3, refused; mask 4; unmask 3:");
+    say(b"\nstarted: mode asked; 0x1002, refused; mask 3, refused; mask 4; unmask 3:");
     let mut words = [0xeu64; 320];
     let s = messaging(laid_out(2)).activate(9, &mut words).state;
     command(s, 0x1002, 1);
