@@ -66,11 +66,15 @@ fn ready() -> Queue {
         .update(256, Field::Ready, 1)
 }
 
+fn fresh(dataqueues: u32, control: u32) -> MmioV2DeviceState {
+    let m = MmioV2DeviceState::new(configuration(dataqueues, control));
+    m.state
+}
+
 // A fresh state whose queues are all laid out.
 fn laid_out(dataqueues: u32) -> MmioV2DeviceState {
-    let m = MmioV2DeviceState::new(configuration(dataqueues, 0));
     let queues = [ready(); 16];
-    let mut s = m.state;
+    let mut s = fresh(dataqueues, 0);
     s.queues = queues;
     s
 }
@@ -114,10 +118,10 @@ fn outcome(d: Done) {
     stands(s, 1);
 }
 
-fn start(label: &[u8], dataqueues: u32, k: u32) {
+fn start(label: &[u8], s: MmioV2DeviceState, k: u32) {
     say(label);
     let mut words = [0xeu64; 320];
-    let d = laid_out(dataqueues).activate(k, &mut words);
+    let d = s.activate(k, &mut words);
     records(&words, d.count);
     outcome(d);
 }
@@ -185,7 +189,9 @@ fn questions() {
 }
 
 fn short_space() {
-    say(b"\n319 words: refusal and records of activate, reset, message command, control:");
+    say(
+        b"\n319 words: refusal of activate, reset, message command, control; the first word after:",
+    );
     let mut words = [0xeu64; 319];
     let s = laid_out(2);
     dec(s.activate(9, &mut words).refusal as u64);
@@ -236,12 +242,100 @@ fn running_commands() {
     command(s, 0x3003, 1);
 }
 
+// The data stored in vector i once the command was written.
+fn stored(s: MmioV2DeviceState, v: u16, i: usize) {
+    let mut words = [0xeu64; 320];
+    let d = mmio_msi::handle_msi_cmd(s, v, 9, &mut words);
+    let u = d.state;
+    if i < 32 {
+        let vector = u.vectors[i];
+        hex(vector.message as u64);
+    }
+}
+
+fn messages(s: MmioV2DeviceState) {
+    let vector = s.vectors[2];
+    hex(vector.message as u64);
+    hex(s.stage.data as u64);
+    dec(s.stage.index_select as u64);
+    flag(s.hot.msi);
+    hex(s.hot.status as u64);
+}
+
+// MSI turned off with k answers once vector 2 has a message.
+fn turned_off(s: MmioV2DeviceState, k: u32) {
+    let mut words = [0xeu64; 320];
+    let on = mmio_msi::handle_msi_cmd(s, 0x1002, 9, &mut words);
+    let off = mmio_msi::update_msi_enable(on.state, 0x7fff, k, &mut words);
+    messages(off.state);
+}
+
+fn modes() {
+    say(
+        b"\nmode asked; vector 2's data, staged data, index, MSI, status after off; after off refused:",
+    );
+    let on = messaging(laid_out(2));
+    turned_off(on, 1);
+    turned_off(on, 0);
+    say(b"\na control queue alone: mode asked; stored in vector 0 by 0x1000, in 1 by 0x1001:");
+    let alone = messaging(fresh(0, 256));
+    stored(alone, 0x1000, 0);
+    stored(alone, 0x1001, 1);
+}
+
+fn selected(s: MmioV2DeviceState, q: u32) {
+    let hot = s.hot;
+    let mut u = s;
+    u.hot = hot.set_queue_select(q);
+    dec(u.queue_max() as u64);
+    dec(u.queue_ready() as u64);
+}
+
+fn selectors() {
+    say(b"\nmaximum and ready of queue 0, the control queue 2, 3, 0x10000:");
+    let mut s = fresh(2, 512);
+    s = s.with_queue_mut(Field::Ready, 1);
+    selected(s, 0);
+    selected(s, 2);
+    selected(s, 3);
+    selected(s, 0x10000);
+}
+
+fn features(s: MmioV2DeviceState, page: u32) {
+    let mut words = [0xeu64; 320];
+    let hot = s.hot;
+    let mut u = s;
+    u.hot = hot.set_features_select(page)
+        .set_acked_features_select(page);
+    hex(u.get_avail_features() as u64);
+    let d = u.set_acked_features(9, &mut words);
+    records(&words, d.count);
+}
+
+fn pages() {
+    say(b"\nfeatures of page 0, 1, 5, and 9 acknowledged there:");
+    let s = fresh(2, 0);
+    features(s, 0);
+    features(s, 1);
+    features(s, 5);
+}
+
 fn main() {
     say(b"the whole case: two queues, k = 3");
-    start(b"", 2, 3);
-    start(b"\ntwo queues, k = 4: interrupts refused", 2, 4);
-    start(b"\ntwo queues, k = 6: started", 2, 6);
-    start(b"\nthree queues, k = 1: the first notify refused", 3, 1);
+    start(b"", laid_out(2), 3);
+    start(
+        b"\ntwo queues, k = 2: the second doorbell refused",
+        laid_out(2),
+        2,
+    );
+    start(b"\ntwo queues, k = 4: interrupts refused", laid_out(2), 4);
+    start(b"\ntwo queues, k = 6: started", laid_out(2), 6);
+    start(
+        b"\nthree queues, k = 1: the first notify refused",
+        laid_out(3),
+        1,
+    );
+    start(b"\nno queue ready, k = 9", fresh(2, 0), 9);
     stop(b"\nreset accepted", 1);
     stop(b"\nreset refused", 0);
     refusals();
@@ -250,6 +344,9 @@ fn main() {
     short_space();
     idle_commands();
     running_commands();
-    start(b"\nsixteen queues, k = 31", 16, 31);
+    modes();
+    selectors();
+    pages();
+    start(b"\nsixteen queues, k = 31", laid_out(16), 31);
     say(b"\n");
 }
