@@ -26,6 +26,7 @@ use Rattle.mmio_parts.proofs.is_masked.Reads as is-masked-promise
 use Rattle.mmio_parts.proofs.mask_at.Reads as mask-at-promise
 use Rattle.mmio_parts.proofs.csr_of.Reads as csr-of-promise
 use Rattle.mmio_parts.proofs.command_at.Reads as command-at-promise
+use Rattle.mmio_parts.proofs.no_config.Reads as no-config-promise
 
 pub fresh-hot-determined : (κs : _) (a : _) (r r′ : _) (s s′ : _) → fresh-hot-promise.Post κs a r s → fresh-hot-promise.Post κs a r′ s′ → r ≡ r′
 fresh-hot-determined κs a r r′ s s′ p q = p ∙ sym q
@@ -104,3 +105,6 @@ csr-of-determined κs a r r′ s s′ p q = p ∙ sym q
 
 pub command-at-determined : (κs : _) (a : _) (r r′ : _) (s s′ : _) → command-at-promise.Post κs a r s → command-at-promise.Post κs a r′ s′ → r ≡ r′
 command-at-determined κs a r r′ s s′ p q = p ∙ sym q
+
+pub no-config-determined : (κs : _) (a : _) (r r′ : _) (s s′ : _) → no-config-promise.Post κs a r s → no-config-promise.Post κs a r′ s′ → r ≡ r′
+no-config-determined κs a r r′ s s′ p q = p ∙ sym q

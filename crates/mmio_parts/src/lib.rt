@@ -348,7 +348,8 @@ fn accept(c: Configuration) -> Config
     }
 }
 
-fn no_config() -> Config
+/// No configuration: every word 0.
+pub fn no_config() -> Config
     ensures { λ r. ⌜ r ≡ noConfig ⌝ }
 {
     let none = Region {

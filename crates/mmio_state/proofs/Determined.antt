@@ -15,6 +15,7 @@ use Rattle.mmio_state.proofs.MmioV2DeviceState.held_entry.Reads as held
 use Rattle.mmio_state.proofs.MmioV2DeviceState.activate.Reads as activate-promise
 use Rattle.mmio_state.proofs.MmioV2DeviceState.set_acked_features.Reads as set-acked-features-promise
 use Rattle.mmio_state.proofs.MmioV2DeviceState.reset.Reads as reset-promise
+use Rattle.mmio_state.proofs.MmioV2DeviceState.none.Reads as none-promise
 
 pub refuse-determined : (κs : _) (a : _) (r r′ : _) (s s′ : _) → refuse-promise.Post κs a r s → refuse-promise.Post κs a r′ s′ → r ≡ r′
 refuse-determined κs a r r′ s s′ p q = p ∙ sym q
@@ -57,3 +58,6 @@ set-acked-features-determined κs a r r′ s s′ p q = (p .0 ∙ sym (q .0), p 
 
 pub reset-determined : (κs : _) (a : _) (r r′ : _) (s s′ : _) → reset-promise.Post κs a r s → reset-promise.Post κs a r′ s′ → (r ≡ r′) × (now (s .1 .1 .0) ≡ now (s′ .1 .1 .0))
 reset-determined κs a r r′ s s′ p q = (p .0 ∙ sym (q .0), p .1 ∙ sym (q .1))
+
+pub none-determined : (κs : _) (a : _) (r r′ : _) (s s′ : _) → none-promise.Post κs a r s → none-promise.Post κs a r′ s′ → r ≡ r′
+none-determined κs a r r′ s s′ p q = p ∙ sym q

@@ -14,7 +14,7 @@ ghost use Rattle.tape.specs.Actions.{ackFeatures};
 ghost use Rattle.tape.specs.Play.{laid};
 ghost use Rattle.mmio_state.specs.State.{failedState};
 ghost use Rattle.mmio_state.specs.Effect.{done, ended, refused, written};
-ghost use Rattle.mmio_state.specs.Fresh.{begun, made, noHot};
+ghost use Rattle.mmio_state.specs.Fresh.{begun, made, noHot, noState};
 ghost use Rattle.mmio_state.specs.Activation.{activating, queuesValid, resetting, settled, started, wiped};
 ghost use Rattle.mmio_state.specs.Fields.{acking, asked, askedHeld, fieldWritten, offered, selectedMax, selectedReady, selectedRegion};
 use dragonball::Msi;
@@ -268,6 +268,14 @@ impl MmioV2DeviceState {
             refusal: g.refusal,
             state: none,
         }
+    }
+
+    /// No device: every word 0.
+    pub fn none() -> Self
+        ensures { λ r. ⌜ r ≡ noState ⌝ }
+    {
+        let config = mmio_parts::no_config();
+        begun(no_hot(), config)
     }
 
     /// Validity, registrations, interrupts enabled, the device activated; after a refusal what is undone, and the state

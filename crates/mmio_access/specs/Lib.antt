@@ -1,0 +1,4 @@
+-- What single registers show and do, and what the status lets through.
+pub mod Gates
+pub mod Shown
+pub mod Changes

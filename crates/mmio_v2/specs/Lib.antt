@@ -1,0 +1,4 @@
+-- The device as a function: fresh from a configuration, and one step.
+pub mod Fresh
+pub mod Registers
+pub mod Step
