@@ -23,8 +23,7 @@ use Rattle.activation.proofs.Every.{Every, none, more, Kinds, every-start, ever
 use Rattle.activation.proofs.Bound.{start-most, stop-most}
 use Rattle.activation.specs.Bound.{most}
 use Rattle.activation.specs.Requests.{stops}
-use Rattle.mmio_parts.specs.Polled.{maxVectors}
-use Rattle.mmio_parts.specs.Fresh.{noVector}
+use Rattle.mmio_config.specs.Fresh.{maxVectors, noVector}
 use Rattle.mmio_state.specs.State.{State, queuesIn, failedState}
 use Rattle.mmio_state.specs.Activation.{queuesValid, started, wiped, settled, starting, startsAt, activating, stopping, resetting}
 use Rattle.mmio_state.specs.Effect.{Effect, quiet}

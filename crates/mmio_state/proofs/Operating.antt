@@ -19,9 +19,9 @@ use Rattle.tape.specs.declared.Tape.{Tape}
 use Rattle.tape.proofs.Playing.{played}
 use Rattle.activation.specs.Requests.{startRecords, begins, stopRecords, stops}
 use Rattle.activation.proofs.Bound.{start-most, stop-most}
-use Rattle.mmio_parts.specs.Fresh.{refusalOf, accepted, noConfig, freshHot, configured}
-use Rattle.mmio_parts.specs.declared.Configuration.{Configuration}
-use Rattle.mmio_parts.specs.declared.Configured.{Configured}
+use Rattle.mmio_config.specs.Fresh.{refusalOf, accepted, noConfig, freshHot, configured}
+use Rattle.mmio_config.specs.declared.Configuration.{Configuration}
+use Rattle.mmio_config.specs.declared.Configured.{Configured}
 use Rattle.mmio_state.specs.State.{State, queuesIn}
 use Rattle.mmio_state.specs.Effect.{Effect, quiet, ended, refused, done, written}
 use Rattle.mmio_state.specs.Fresh.{begun, noHot, made}

@@ -8,10 +8,10 @@ use Rattle.dragonball.specs.Messages.{noMessage}
 use Rattle.tape.specs.Held.{heldAfter}
 use Rattle.tape.specs.declared.Held.{Held}
 use Rattle.activation.specs.Requests.{startRecords, begins, stopRecords, stops}
-use Rattle.mmio_parts.specs.Polled.{wipedHot}
-use Rattle.mmio_parts.specs.Fresh.{freshQueues, noFlags, noVectors}
-use Rattle.mmio_parts.specs.Tables.{validAll}
-use Rattle.mmio_parts.specs.declared.Flags.{Flags}
+use Rattle.mmio_hot.specs.Polled.{wipedHot}
+use Rattle.mmio_config.specs.Fresh.{freshQueues, noFlags, noVectors}
+use Rattle.mmio_tables.specs.Tables.{validAll}
+use Rattle.mmio_config.specs.declared.Flags.{Flags}
 use Rattle.mmio_state.specs.State.{State, queuesIn}
 use Rattle.mmio_state.specs.Effect.{Effect, quiet}
 

@@ -8,8 +8,7 @@ use Rattle.virtq.specs.Index.{maxQueues}
 use Rattle.virtq.specs.Fields.{noQueue}
 use Rattle.dragonball.specs.Messages.{noMessage}
 use Rattle.tape.specs.Held.{noHeld}
-use Rattle.mmio_parts.specs.Polled.{maxVectors, maxRegions}
-use Rattle.mmio_parts.specs.Fresh.{noVector}
+use Rattle.mmio_config.specs.Fresh.{maxVectors, maxRegions, noVector}
 use Rattle.mmio_state.specs.State.{State}
 
 pub record Sound (s : State) : Type 0 where
