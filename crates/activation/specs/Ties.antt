@@ -2,11 +2,11 @@
 -- needs none of these.
 use mathlib.Core.Path.{_≡_}
 use mathlib.Core.Bool.{Bool, true, false}
-use mathlib.Core.List.{List, [], _∷_}
+use mathlib.Core.List.{List, []}
 use Prim.Native.Nat.{ℕ}
 use Rattle.words.specs.Pick.{pick}
 use Rattle.words.specs.declared.Action.{Action}
-use Rattle.tape.specs.Play.{Sheet, sheet, play}
+use Rattle.tape.specs.Play.{sheet, play}
 use Rattle.tape.specs.declared.Tape.{Tape}
 use Rattle.activation.specs.Requests.{Request, Bell, Note, wipes, turn, lasts, requests, after, asks, starts}
 use Rattle.activation.specs.declared.Place.{Place}

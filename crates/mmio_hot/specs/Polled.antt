@@ -1,5 +1,5 @@
 -- The polled registers, with one of them changed (01, The ladder of status; Registers; State reset).
-use mathlib.Core.Bool.{Bool, true, false}
+use mathlib.Core.Bool.{Bool, false}
 use Prim.Native.Nat.{ℕ, _+_}
 use Rattle.words.specs.Pick.{pick}
 use Rattle.words.specs.Bits.{bit}

@@ -240,7 +240,7 @@ fn mask_msi_int(
     quiet_done(s, true)
 }
 
-/// The staged address, low and high, and data: kept only while MSI is on.
+/// The low half of the staged address: kept only while MSI is on.
 pub fn set_msi_address_low(s: MmioV2DeviceState, v: u32) -> MmioV2DeviceState
     ensures { λ r. ⌜ r ≡ staged s (withAddressLow (s .stage) v) ⌝ }
 {
@@ -248,6 +248,7 @@ pub fn set_msi_address_low(s: MmioV2DeviceState, v: u32) -> MmioV2DeviceState
     staged(s, stage.with_address_low(v))
 }
 
+/// The high half of the staged address: kept only while MSI is on.
 pub fn set_msi_address_high(s: MmioV2DeviceState, v: u32) -> MmioV2DeviceState
     ensures { λ r. ⌜ r ≡ staged s (withAddressHigh (s .stage) v) ⌝ }
 {
@@ -255,6 +256,7 @@ pub fn set_msi_address_high(s: MmioV2DeviceState, v: u32) -> MmioV2DeviceState
     staged(s, stage.with_address_high(v))
 }
 
+/// The staged data: kept only while MSI is on.
 pub fn set_msi_data(s: MmioV2DeviceState, v: u32) -> MmioV2DeviceState
     ensures { λ r. ⌜ r ≡ staged s (withData (s .stage) v) ⌝ }
 {

@@ -1,5 +1,5 @@
 -- Activation and state reset as functions of the state (01, The ladder of status; State reset; Actions).
-use mathlib.Core.Bool.{Bool, true, false}
+use mathlib.Core.Bool.{Bool, true}
 use mathlib.Core.List.{List}
 use Prim.Native.Nat.{ℕ}
 use Rattle.words.specs.Pick.{pick}

@@ -1,6 +1,6 @@
 -- Which states are real: what a fresh state has and every operation keeps. A struct can hold values that no run leaves; the
 -- promises answer for those too, and this says which they are.
-use mathlib.Core.Bool.{Bool, true, false}
+use mathlib.Core.Bool.{false}
 use mathlib.Core.Path.{_≡_}
 use Prim.Native.Nat.{ℕ, _-_, _^_, _≤_}
 use lib.ListN.{getD}

@@ -1,6 +1,6 @@
 -- One entry of a table: of queues, vectors, regions and registrations (01, Registers; "Queue fields, counting writes and
 -- wipes"; Messages; refusal 13).
-use mathlib.Core.Bool.{Bool, true, false, not}
+use mathlib.Core.Bool.{Bool, true, false}
 use mathlib.Core.List.{List}
 use Prim.Native.Nat.{ℕ, zero, suc, _+_, min}
 use lib.Dec.{eqb, ltb}
