@@ -37,5 +37,5 @@ pub record Gone (b : ℕ) (d : Bool) (n : ℕ) (l : List ℕ) (t : Tape) (xs : L
 
 -- 3 and 4 were asked, for any number of queues
 pub record Began (b : ℕ) (l : List ℕ) (t : Tape) (l′ : List ℕ) (r : Begun) : Type 0 where
-  pub rest : (d : Bool) (n : ℕ) → play b (sheet l′ (r .tape)) (pick (r .ok) [] (wipes b d n true)) ≡ play b (sheet l t) (asks b d n (t .left) lasts)
+  pub rest : (d : Bool) (n : ℕ) → play b (sheet l′ (r .tape)) (pick (r .ok) [] (wipes b n true)) ≡ play b (sheet l t) (asks b d n (t .left) lasts)
   pub ends : r .ok ≡ starts (t .left) lasts

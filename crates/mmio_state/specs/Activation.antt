@@ -53,7 +53,7 @@ settled s ok hs = pick ok (started s hs) (wiped s hs)
 
 -- the records of a start, and whether it starts
 unfoldable pub starting : State → (k : ℕ) → List Action
-starting s k = startRecords (s .config .base) (s .hot .doorbell) (queuesIn s) (s .flags .registered) (queuesValid s) k
+starting s k = startRecords (s .config .base) (s .hot .doorbell) (queuesIn s) (queuesValid s) k
 
 unfoldable pub startsAt : State → (k : ℕ) → Bool
 startsAt s k = begins (s .hot .doorbell) (queuesIn s) (queuesValid s) k

@@ -183,15 +183,7 @@ fn attempt(s: MmioV2DeviceState, k: u32, actions: &mut [u64]) -> Done
     let n = mmio_tables::queues_in(s.config.count);
     let valid = mmio_tables::all_valid(queues, s.config.count, s.config.memory);
     let t = tape_of(held, k);
-    let b = activation::start(
-        &mut *actions,
-        t,
-        s.config.base,
-        s.hot.doorbell,
-        n,
-        s.flags.registered,
-        valid,
-    );
+    let b = activation::start(&mut *actions, t, s.config.base, s.hot.doorbell, n, valid);
     let u = b.tape;
     settle(s, u, b.ok)
 }
