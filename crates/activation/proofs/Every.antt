@@ -42,20 +42,20 @@ pub record Kinds (P : Action → Type 0) (b n : ℕ) : Type 0 where
   pub shutting : P resetDevice
 
 module _ {P : Action → Type 0} {b n : ℕ} (K : Kinds P b n) where
-  every-wipe : (d full : Bool) → Every P (wipes b d n full)
-  every-wipe d true = more (K .resetting) (rising 0 n (λ q. unregister (note b q)) (K .note-off))
-  every-wipe d false = more (K .resetting) none
+  every-wipe : (full : Bool) → Every P (wipes b n full)
+  every-wipe true = more (K .resetting) (rising 0 n (λ q. unregister (note b q)) (K .note-off))
+  every-wipe false = more (K .resetting) none
 
   every-revert : (num a : ℕ) (w : Bool) → Every P (reverts num a w)
   every-revert num a w = sinking num (λ k. unregister (entry k a 8 (pick w 0 (k + 1)))) (λ k. K .missing k a (pick w 0 (k + 1)))
 
   every-after : (d : Bool) (x : Request) → Every P (after b d n x)
-  every-after d (Bell i) = both (every-revert i (bellAddress b i) true) (every-wipe d false)
+  every-after d (Bell i) = both (every-revert i (bellAddress b i) true) (every-wipe false)
   every-after true (Note i) =
-      both (both (rising 0 n (λ q. unregister (bell b q)) (K .bell-off)) (every-revert i (noteAddress b) false)) (every-wipe true false)
-  every-after false (Note i) = both (every-revert i (noteAddress b) false) (every-wipe false false)
-  every-after d Enable = every-wipe d true
-  every-after d Activate = every-wipe d true
+      both (both (rising 0 n (λ q. unregister (bell b q)) (K .bell-off)) (every-revert i (noteAddress b) false)) (every-wipe false)
+  every-after false (Note i) = both (every-revert i (noteAddress b) false) (every-wipe false)
+  every-after d Enable = every-wipe true
+  every-after d Activate = every-wipe true
 
   every-asks : (d : Bool) (i m k : ℕ) → i + m ≡ n → Every P (asks b d n k (requests d i m))
   every-asks d i zero zero h = more (K .enabling) (every-after d Enable)
@@ -69,14 +69,14 @@ module _ {P : Action → Type 0} {b n : ℕ} (K : Kinds P b n) where
   every-asks false i (suc m) zero h = more (K .note-on i (omega arith)) (every-after false (Note i))
   every-asks false i (suc m) (suc k) h = more (K .note-on i (omega arith)) (every-asks false (i + 1) m k (omega arith))
 
-  pub every-start : (d full valid : Bool) (k : ℕ) → Every P (startRecords b d n full valid k)
-  every-start d full true k = every-asks d 0 n k (omega arith)
-  every-start d full false k = every-wipe d full
+  pub every-start : (d valid : Bool) (k : ℕ) → Every P (startRecords b d n valid k)
+  every-start d true k = every-asks d 0 n k (omega arith)
+  every-start d false k = every-wipe false
 
   pub every-stop : (full active : Bool) (k : ℕ) → Every P (stopRecords b n full active k)
-  every-stop full false k = every-wipe true full
+  every-stop full false k = every-wipe full
   every-stop full true k = more (K .shutting) (go (eqb k 0))
     where
-      go : (t : Bool) → Every P (pick t [] (wipes b true n full))
+      go : (t : Bool) → Every P (pick t [] (wipes b n full))
       go true = none
-      go false = every-wipe true full
+      go false = every-wipe full

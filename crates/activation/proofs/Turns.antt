@@ -24,11 +24,11 @@ use Rattle.activation.specs.declared.Begun.{Begun}
 -- ---- one request
 
 module _ (b : ℕ) (d : Bool) (n : ℕ) (x : Request) (xs : List Request) (l : List ℕ) (t : Tape) (l′ : List ℕ) (a : Tape)
-    (e : sheet l′ a ≡ one b (sheet l t) (recordOf b d n x)) where
+    (e : sheet l′ a ≡ one b (sheet l t) (recordOf b x)) where
   left-is : a .left ≡ t .left - 1
-  left-is = ap (λ (s : Sheet). s .tape .left) e ∙ one-left b l t (recordOf b d n x) ∙ by-kind x
+  left-is = ap (λ (s : Sheet). s .tape .left) e ∙ one-left b l t (recordOf b x) ∙ by-kind x
     where
-      by-kind : (y : Request) → leftAfter (t .left) (recordOf b d n y) ≡ t .left - 1
+      by-kind : (y : Request) → leftAfter (t .left) (recordOf b y) ≡ t .left - 1
       by-kind (Bell i) = refl
       by-kind (Note i) = refl
       by-kind Enable = refl
@@ -120,11 +120,11 @@ module _ (b : ℕ) (l : List ℕ) (t : Tape) (l′ : List ℕ) (a : Tape) (e : s
 
 module _ {b : ℕ} (d : Bool) (n : ℕ) {l : List ℕ} {t : Tape} {l′ : List ℕ} {r : Begun} (g : Began b l t l′ r) where
   pub began-yes : r .ok ≡ true → Played b l t (asks b d n (t .left) lasts) l′ (r .tape)
-  began-yes h = record { is = ap (λ (o : Bool). play b (sheet l′ (r .tape)) (pick o [] (wipes b d n true))) (sym h) ∙ g .rest d n }
+  began-yes h = record { is = ap (λ (o : Bool). play b (sheet l′ (r .tape)) (pick o [] (wipes b n true))) (sym h) ∙ g .rest d n }
 
-  pub began-no : r .ok ≡ false → {l″ : List ℕ} {u : Tape} → Played b l′ (r .tape) (wipes b d n true) l″ u → Played b l t (asks b d n (t .left) lasts) l″ u
+  pub began-no : r .ok ≡ false → {l″ : List ℕ} {u : Tape} → Played b l′ (r .tape) (wipes b n true) l″ u → Played b l t (asks b d n (t .left) lasts) l″ u
   began-no h f =
-      record { is = f .is ∙ ap (λ (o : Bool). play b (sheet l′ (r .tape)) (pick o [] (wipes b d n true))) (sym h) ∙ g .rest d n }
+      record { is = f .is ∙ ap (λ (o : Bool). play b (sheet l′ (r .tape)) (pick o [] (wipes b n true))) (sym h) ∙ g .rest d n }
 
 -- ---- all queues' registrations
 

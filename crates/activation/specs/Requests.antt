@@ -33,40 +33,40 @@ requests d i (suc m) = turn d i (requests d (i + 1) m)
 abbrev pub reverts : (num address : ℕ) (wildcard : Bool) → List Action
 reverts num a w = down num (λ k. unregister (entry k a 8 (pick w 0 (k + 1))))
 
+-- "unregister all doorbells 0 up", also those never registered
+abbrev pub bellsOff : (b n : ℕ) → List Action
+bellsOff b n = up 0 n (λ q. unregister (bell b q))
+
+abbrev pub notesOff : (b n : ℕ) → List Action
+notesOff b n = up 0 n (λ q. unregister (note b q))
+
+-- a state reset: "action 6; if a full set of registrations was accepted since the last state reset, unregister each notify
+-- in queue order"
+abbrev pub wipes : (b n : ℕ) (full : Bool) → List Action
+wipes b n full = resetInterrupts ∷ pick full (notesOff b n) []
+
+abbrev pub recordOf : (b : ℕ) → Request → Action
+recordOf b (Bell i) = register (bell b i)
+recordOf b (Note i) = register (note b i)
+recordOf b Enable = enableInterrupts
+recordOf b Activate = activateDevice
+
 -- base, doorbell setting and number of queues are the same all along
 module _ (b : ℕ) (d : Bool) (n : ℕ) where
-  -- "unregister all doorbells 0 up", also those never registered
-  abbrev pub bellsOff : List Action
-  bellsOff = up 0 n (λ q. unregister (bell b q))
-
-  abbrev pub notesOff : List Action
-  notesOff = up 0 n (λ q. unregister (note b q))
-
-  -- a state reset: "action 6; if a full set of registrations was accepted since the last state reset, unregister each
-  -- notify in queue order"
-  abbrev pub wipes : (full : Bool) → List Action
-  wipes full = resetInterrupts ∷ pick full notesOff []
-
-  abbrev pub recordOf : Request → Action
-  recordOf (Bell i) = register (bell b i)
-  recordOf (Note i) = register (note b i)
-  recordOf Enable = enableInterrupts
-  recordOf Activate = activateDevice
-
   -- "Doorbell refused at i: for k from i-1 down to 0, unregister queue k at doorbell i, width 8, value 0. Notify refused at
   -- i: unregister all doorbells 0 up, if any, then for k from i-1 down to 0 queue k at 0x50, width 8, value k+1." Then the
   -- state reset; 3 and 4 are asked only once the full set was accepted.
   abbrev pub after : Request → List Action
-  after (Bell i) = reverts i (bellAddress b i) true ++ wipes false
-  after (Note i) = (pick d bellsOff [] ++ reverts i (noteAddress b) false) ++ wipes false
-  after Enable = wipes true
-  after Activate = wipes true
+  after (Bell i) = reverts i (bellAddress b i) true ++ wipes b n false
+  after (Note i) = (pick d (bellsOff b n) [] ++ reverts i (noteAddress b) false) ++ wipes b n false
+  after Enable = wipes b n true
+  after Activate = wipes b n true
 
   -- "the first k answered requests are accepted, the next is refused, and no answered request follows it"
   abbrev pub asks : (k : ℕ) → List Request → List Action
   asks k [] = []
-  asks zero (x ∷ xs) = recordOf x ∷ after x
-  asks (suc k) (x ∷ xs) = recordOf x ∷ asks k xs
+  asks zero (x ∷ xs) = recordOf b x ∷ after x
+  asks (suc k) (x ∷ xs) = recordOf b x ∷ asks k xs
 
 -- whether all are accepted
 abbrev pub starts : (k : ℕ) → List Request → Bool
@@ -76,10 +76,10 @@ starts (suc k) (x ∷ xs) = starts k xs
 
 -- ---- a start and a stop, whole
 
--- "validity, then for each queue ..": the records of a start, if `valid` says that the queues are, and `full` whether a full
--- set stands already; and whether it starts
-abbrev pub startRecords : (b : ℕ) (d : Bool) (n : ℕ) (full valid : Bool) (k : ℕ) → List Action
-startRecords b d n full valid k = pick valid (asks b d n k (requests d 0 n)) (wipes b d n full)
+-- "validity, then for each queue ..": the records of a start, if `valid` says that the queues are, and whether it starts. A
+-- device that is started is not active, so no full set stands (see `Sound` of mmio_state).
+abbrev pub startRecords : (b : ℕ) (d : Bool) (n : ℕ) (valid : Bool) (k : ℕ) → List Action
+startRecords b d n valid k = pick valid (asks b d n k (requests d 0 n)) (wipes b n false)
 
 abbrev pub begins : (d : Bool) (n : ℕ) (valid : Bool) (k : ℕ) → Bool
 begins d n valid k = pick valid (starts k (requests d 0 n)) false
@@ -88,7 +88,7 @@ begins d n valid k = pick valid (starts k (requests d 0 n)) false
 -- is not asked.
 abbrev pub stopRecords : (b n : ℕ) (full active : Bool) (k : ℕ) → List Action
 stopRecords b n full active k =
-    pick active (resetDevice ∷ pick (eqb k 0) [] (wipes b true n full)) (wipes b true n full)
+    pick active (resetDevice ∷ pick (eqb k 0) [] (wipes b n full)) (wipes b n full)
 
 abbrev pub stops : (active : Bool) (k : ℕ) → Bool
 stops active k = pick active (not (eqb k 0)) true

@@ -2,11 +2,11 @@
 -- needs none of these.
 use mathlib.Core.Path.{_≡_}
 use mathlib.Core.Bool.{Bool, true, false}
-use mathlib.Core.List.{List, [], _∷_}
+use mathlib.Core.List.{List, []}
 use Prim.Native.Nat.{ℕ}
 use Rattle.words.specs.Pick.{pick}
 use Rattle.words.specs.declared.Action.{Action}
-use Rattle.tape.specs.Play.{Sheet, sheet, play}
+use Rattle.tape.specs.Play.{sheet, play}
 use Rattle.tape.specs.declared.Tape.{Tape}
 use Rattle.activation.specs.Requests.{Request, Bell, Note, wipes, turn, lasts, requests, after, asks, starts}
 use Rattle.activation.specs.declared.Place.{Place}
@@ -37,5 +37,5 @@ pub record Gone (b : ℕ) (d : Bool) (n : ℕ) (l : List ℕ) (t : Tape) (xs : L
 
 -- 3 and 4 were asked, for any number of queues
 pub record Began (b : ℕ) (l : List ℕ) (t : Tape) (l′ : List ℕ) (r : Begun) : Type 0 where
-  pub rest : (d : Bool) (n : ℕ) → play b (sheet l′ (r .tape)) (pick (r .ok) [] (wipes b d n true)) ≡ play b (sheet l t) (asks b d n (t .left) lasts)
+  pub rest : (d : Bool) (n : ℕ) → play b (sheet l′ (r .tape)) (pick (r .ok) [] (wipes b n true)) ≡ play b (sheet l t) (asks b d n (t .left) lasts)
   pub ends : r .ok ≡ starts (t .left) lasts

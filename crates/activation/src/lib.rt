@@ -144,7 +144,7 @@ fn register_ioevent(actions: &mut [u64], t: Tape, base: u64, bell: bool, n: u32)
 
 // The notifies of a full set, in queue order.
 fn unregister_ioevent(actions: &mut [u64], t: Tape, base: u64, n: u32) -> Tape
-    ensures { λ r. ⌜ Played base (now (actions .entry)) t (notesOff base true n) (now (actions .exit)) r ⌝ }
+    ensures { λ r. ⌜ Played base (now (actions .entry)) t (notesOff base n) (now (actions .exit)) r ⌝ }
 {
     let mut u = t;
     let mut i: u32 = 0;
@@ -197,7 +197,7 @@ fn revert_ioevent(
 }
 
 fn unregister_ioevent_doorbell(actions: &mut [u64], t: Tape, base: u64, n: u32) -> Tape
-    ensures { λ r. ⌜ Played base (now (actions .entry)) t (bellsOff base true n) (now (actions .exit)) r ⌝ }
+    ensures { λ r. ⌜ Played base (now (actions .entry)) t (bellsOff base n) (now (actions .exit)) r ⌝ }
 {
     let mut u = t;
     let mut i: u32 = 0;
@@ -210,7 +210,7 @@ fn unregister_ioevent_doorbell(actions: &mut [u64], t: Tape, base: u64, n: u32) 
 
 // The records of a state reset: interrupts reset, and the notifies unregistered if a full set was accepted.
 fn wipe(actions: &mut [u64], t: Tape, base: u64, n: u32, full: bool) -> Tape
-    ensures { λ r. ⌜ Played base (now (actions .entry)) t (wipes base true n full) (now (actions .exit)) r ⌝ }
+    ensures { λ r. ⌜ Played base (now (actions .entry)) t (wipes base n full) (now (actions .exit)) r ⌝ }
 {
     let u = tape::emit(&mut *actions, t, base, plain(ACTION_RESET_INTERRUPTS));
     if full {
@@ -301,24 +301,16 @@ fn attempt(actions: &mut [u64], t: Tape, base: u64, bell: bool, n: u32) -> Begun
     finish(&mut *actions, r, base, bell, n)
 }
 
-/// The records of an activation, and whether every request was accepted. `valid` says whether the queues may be started,
-/// `full` whether a full set of registrations stands.
-pub fn start(
-    actions: &mut [u64],
-    t: Tape,
-    base: u64,
-    bell: bool,
-    n: u32,
-    full: bool,
-    valid: bool,
-) -> Begun
-    ensures { λ e. ⌜ Played base (now (actions .entry)) t (startRecords base bell n full valid (t .left)) (now (actions .exit)) (e .tape) ⌝ }
+/// The records of an activation, and whether every request was accepted. `valid` says whether the queues may be started. A
+/// device that is started is not active, so no full set of registrations stands.
+pub fn start(actions: &mut [u64], t: Tape, base: u64, bell: bool, n: u32, valid: bool) -> Begun
+    ensures { λ e. ⌜ Played base (now (actions .entry)) t (startRecords base bell n valid (t .left)) (now (actions .exit)) (e .tape) ⌝ }
     ensures { λ e. ⌜ e .ok ≡ begins bell n valid (t .left) ⌝ }
 {
     if valid {
         return attempt(&mut *actions, t, base, bell, n);
     }
-    let w = wipe(&mut *actions, t, base, n, full);
+    let w = wipe(&mut *actions, t, base, n, false);
     Begun { tape: w, ok: false }
 }
 

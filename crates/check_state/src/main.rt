@@ -1,11 +1,11 @@
 //! Runs the state on document 01's whole case, on the sixty-four records and on the cases around them. Records are printed
 //! as their kind and four operands in hex; it is held to the file `stdout`.
 
-use mmio_parts::Configuration;
-use mmio_parts::Kind;
-use mmio_parts::Region;
+use mmio_config::Configuration;
+use mmio_config::Region;
 use mmio_state::Done;
 use mmio_state::MmioV2DeviceState;
+use mmio_tables::Kind;
 use virtq::Field;
 use virtq::Queue;
 use virtq::QueueIndex;

@@ -7,9 +7,9 @@ use Rattle.words.specs.Pick.{pick}
 use Rattle.words.specs.declared.Action.{Action}
 use Rattle.virtq.specs.declared.Field.{Field}
 use Rattle.tape.specs.Actions.{ackFeatures, readConfig, writeConfig}
-use Rattle.mmio_parts.specs.Polled.{selecting}
-use Rattle.mmio_parts.specs.Tables.{updatedAt}
-use Rattle.mmio_parts.specs.declared.Hot.{Hot}
+use Rattle.mmio_hot.specs.Polled.{selecting}
+use Rattle.mmio_tables.specs.Tables.{updatedAt}
+use Rattle.mmio_hot.specs.declared.Hot.{Hot}
 use Rattle.mmio_state.specs.State.{State, queuesIn, withHot, withQueues}
 use Rattle.mmio_state.specs.Effect.{Effect}
 use Rattle.mmio_access.specs.Gates.{fieldsOpen, acksOpen, configOpen}

@@ -19,7 +19,7 @@ ghost use Rattle.mmio_access.specs.Shown.{csrWord, deviceFeatures, doorb
 ghost use Rattle.mmio_access.specs.Changes.{acked, acknowledged, asking, configRead, configWritten, fieldUpdated, raised, selected};
 use dragonball::DoorBell;
 use dragonball::MMIO_MSI_CSR_SUPPORTED;
-use mmio_parts::Hot;
+use mmio_hot::Hot;
 use mmio_state::ACTION_WORDS;
 use mmio_state::Done;
 use mmio_state::MmioV2DeviceState;

@@ -1,7 +1,7 @@
 -- A write to the status register, on the state: what its move asks, and the status after it (01, The ladder of status).
 use mathlib.Core.Bool.{true, false}
 use Prim.Native.Nat.{ℕ}
-use Rattle.mmio_parts.specs.Polled.{withStatus}
+use Rattle.mmio_hot.specs.Polled.{withStatus}
 use Rattle.mmio_state.specs.State.{State, withHot}
 use Rattle.mmio_state.specs.Effect.{Effect, quiet}
 use Rattle.mmio_state.specs.Activation.{activating, resetting}

@@ -3,7 +3,7 @@ use mathlib.Core.Bool.{Bool}
 use Prim.Native.Nat.{ℕ}
 use lib.Dec.{eqb}
 use Rattle.words.specs.Pick.{pick}
-use Rattle.mmio_parts.specs.Polled.{failed}
+use Rattle.mmio_hot.specs.Polled.{failed}
 use Rattle.mmio_ladder.specs.declared.Move.{Move}
 use Rattle.mmio_ladder.specs.declared.Move.the-variants.{Take, Start, Reset, Stay, Fail}
 

@@ -16,7 +16,7 @@ ghost use Rattle.tape.specs.Play.{laid};
 ghost use Rattle.mmio_state.specs.Effect.{done, ended, quiet, written};
 ghost use Rattle.mmio_ladder.specs.Ladder.{downMove, from, moveOf, otherMove, statusAfter};
 ghost use Rattle.mmio_ladder.specs.Climbing.{climbing, laddered, marked, statusSet};
-use mmio_parts::Hot;
+use mmio_hot::Hot;
 use mmio_state::ACTION_WORDS;
 use mmio_state::Done;
 use mmio_state::MmioV2DeviceState;

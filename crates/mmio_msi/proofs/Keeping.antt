@@ -11,16 +11,16 @@ use lib.Seq.{getD-set-other}
 use Rattle.words.specs.Pick.{pick}
 use Rattle.dragonball.specs.Messages.{noMessage, withIndexSelect}
 use Rattle.dragonball.specs.declared.Msi.{Msi}
-use Rattle.mmio_parts.specs.Polled.{maxVectors, withMode}
-use Rattle.mmio_parts.specs.Fresh.{noVector}
-use Rattle.mmio_parts.specs.Tables.{updatable, vectorAt, stored, storedAt, remasked, maskedAt}
-use Rattle.mmio_parts.specs.Commands.{csrOf, commandAt}
-use Rattle.mmio_parts.specs.declared.Csr.{Csr}
-use Rattle.mmio_parts.specs.declared.Csr.the-variants.{Locked, Stay, Turn}
-use Rattle.mmio_parts.specs.declared.Command.{Command}
-use Rattle.mmio_parts.specs.declared.Command.the-variants.{Update, Mask, Unmask, Other}
-use Rattle.mmio_parts.specs.declared.Hot.{Hot}
-use Rattle.mmio_parts.specs.declared.Vector.{Vector}
+use Rattle.mmio_hot.specs.Polled.{withMode}
+use Rattle.mmio_config.specs.Fresh.{maxVectors, noVector}
+use Rattle.mmio_tables.specs.Tables.{updatable, vectorAt, stored, storedAt, remasked, maskedAt}
+use Rattle.mmio_hot.specs.Commands.{csrOf, commandAt}
+use Rattle.mmio_hot.specs.declared.Csr.{Csr}
+use Rattle.mmio_hot.specs.declared.Csr.the-variants.{Locked, Stay, Turn}
+use Rattle.mmio_hot.specs.declared.Command.{Command}
+use Rattle.mmio_hot.specs.declared.Command.the-variants.{Update, Mask, Unmask, Other}
+use Rattle.mmio_hot.specs.declared.Hot.{Hot}
+use Rattle.mmio_config.specs.declared.Vector.{Vector}
 use Rattle.mmio_state.specs.State.{State, failedState, withStage, withVectors}
 use Rattle.mmio_state.specs.Sound.{Sound}
 use Rattle.mmio_state.proofs.Keeping.{failed-keeps}

@@ -7,12 +7,12 @@ use native.Mathlib.Omega.{arith}
 use lib.ListN.{length}
 use Rattle.dragonball.specs.Messages.{withIndexSelect}
 use Rattle.dragonball.specs.declared.Msi.{Msi}
-use Rattle.mmio_parts.specs.Tables.{vectorAt, storedAt}
+use Rattle.mmio_tables.specs.Tables.{vectorAt, storedAt}
 use Rattle.tape.specs.Play.{laid}
-use Rattle.mmio_parts.specs.Commands.{csrOf, commandAt}
-use Rattle.mmio_parts.specs.declared.Vector.{Vector}
-use Rattle.mmio_parts.specs.declared.Csr.{Csr}
-use Rattle.mmio_parts.specs.declared.Command.{Command}
+use Rattle.mmio_hot.specs.Commands.{csrOf, commandAt}
+use Rattle.mmio_config.specs.declared.Vector.{Vector}
+use Rattle.mmio_hot.specs.declared.Csr.{Csr}
+use Rattle.mmio_hot.specs.declared.Command.{Command}
 use Rattle.mmio_state.specs.State.{State, withVectors}
 use Rattle.mmio_state.specs.Effect.{Effect, ended, done, written}
 use Rattle.mmio_msi.specs.Messages.{heeded, updatedState, controlled, enabling, commanded, commanding}

@@ -9,14 +9,14 @@ use Rattle.words.specs.declared.Action.{Action}
 use Rattle.dragonball.specs.Messages.{noMessage, withIndexSelect}
 use Rattle.dragonball.specs.declared.Msi.{Msi}
 use Rattle.tape.specs.Actions.{setMode, updateVector, maskVector, unmaskVector}
-use Rattle.mmio_parts.specs.Polled.{withMode}
-use Rattle.mmio_parts.specs.Fresh.{noVector}
-use Rattle.mmio_parts.specs.Tables.{updatable, vectorAt, storedAt, maskedAt}
-use Rattle.mmio_parts.specs.Commands.{csrOf, commandAt}
-use Rattle.mmio_parts.specs.declared.Csr.{Csr}
-use Rattle.mmio_parts.specs.declared.Csr.the-variants.{Locked, Stay, Turn}
-use Rattle.mmio_parts.specs.declared.Command.{Command}
-use Rattle.mmio_parts.specs.declared.Command.the-variants.{Update, Mask, Unmask, Other}
+use Rattle.mmio_hot.specs.Polled.{withMode}
+use Rattle.mmio_config.specs.Fresh.{noVector}
+use Rattle.mmio_tables.specs.Tables.{updatable, vectorAt, storedAt, maskedAt}
+use Rattle.mmio_hot.specs.Commands.{csrOf, commandAt}
+use Rattle.mmio_hot.specs.declared.Csr.{Csr}
+use Rattle.mmio_hot.specs.declared.Csr.the-variants.{Locked, Stay, Turn}
+use Rattle.mmio_hot.specs.declared.Command.{Command}
+use Rattle.mmio_hot.specs.declared.Command.the-variants.{Update, Mask, Unmask, Other}
 use Rattle.mmio_state.specs.State.{State, failedState, withStage, withVectors}
 use Rattle.mmio_state.specs.Effect.{Effect, quiet}
 

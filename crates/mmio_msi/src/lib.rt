@@ -13,16 +13,16 @@ ghost use Rattle.words.specs.Pick.{pick};
 ghost use Rattle.dragonball.specs.Messages.{withAddressHigh, withAddressLow, withData};
 ghost use Rattle.tape.specs.Actions.{act, setMode};
 ghost use Rattle.tape.specs.Play.{laid};
-ghost use Rattle.mmio_parts.specs.Tables.{updatable, vectorAt};
+ghost use Rattle.mmio_tables.specs.Tables.{updatable, vectorAt};
 ghost use Rattle.mmio_state.specs.State.{withVectors};
 ghost use Rattle.mmio_state.specs.Effect.{done, ended, quiet, written};
 ghost use Rattle.mmio_msi.specs.Messages.{asksMask, commanded, commanding, controlled, enabling, masking, staged, turned, updatedState};
 use dragonball::Msi;
-use mmio_parts::Command;
-use mmio_parts::Config;
-use mmio_parts::Csr;
-use mmio_parts::MAX_VECTORS;
-use mmio_parts::Vector;
+use mmio_config::Config;
+use mmio_config::MAX_VECTORS;
+use mmio_config::Vector;
+use mmio_hot::Command;
+use mmio_hot::Csr;
 use mmio_state::ACTION_WORDS;
 use mmio_state::Done;
 use mmio_state::MmioV2DeviceState;
@@ -114,7 +114,7 @@ fn turn(s: MmioV2DeviceState, msi: bool, k: u32, actions: &mut [u64]) -> Done
 fn heeded(dataqueues: u32, msi: bool, v: VectorIndex) -> bool
     ensures { λ r. ⌜ r ≡ updatable dataqueues (v .0) && msi ⌝ }
 {
-    if mmio_parts::may_update(dataqueues, v) {
+    if mmio_tables::may_update(dataqueues, v) {
         return msi;
     }
     false
@@ -145,8 +145,8 @@ fn update_state(s: MmioV2DeviceState, v: VectorIndex) -> MmioV2DeviceState
         let stage = s.stage;
         let m = stage.with_index_select(index_of(v));
         let vectors = s.vectors;
-        if mmio_parts::vector_exists(v, s.config.vectors) {
-            return with_vectors(s, m, mmio_parts::store_at(vectors, v, m));
+        if mmio_tables::vector_exists(v, s.config.vectors) {
+            return with_vectors(s, m, mmio_tables::store_at(vectors, v, m));
         }
         return with_vectors(s, m, vectors);
     }
@@ -157,7 +157,7 @@ fn asks_update(c: Config, msi: bool, enabled: bool, v: VectorIndex) -> bool
     ensures { λ r. ⌜ r ≡ ((updatable (c .dataqueues) (v .0) && msi) && vectorAt (v .0) (c .vectors)) && enabled ⌝ }
 {
     if heeded(c.dataqueues, msi, v) {
-        if mmio_parts::vector_exists(v, c.vectors) {
+        if mmio_tables::vector_exists(v, c.vectors) {
             return enabled;
         }
         return false;
@@ -194,8 +194,8 @@ fn asks_mask(s: MmioV2DeviceState, v: VectorIndex, mask: bool) -> bool
 {
     let vectors = s.vectors;
     if s.flags.enabled {
-        if mmio_parts::vector_exists(v, s.config.vectors) {
-            if mmio_parts::is_masked(vectors, v) {
+        if mmio_tables::vector_exists(v, s.config.vectors) {
+            if mmio_tables::is_masked(vectors, v) {
                 return !mask;
             }
             return mask;
@@ -229,7 +229,7 @@ fn mask_msi_int(
         }
         let vectors = s.vectors;
         let stage = s.stage;
-        let u = with_vectors(s, stage, mmio_parts::mask_at(vectors, v, mask));
+        let u = with_vectors(s, stage, mmio_tables::mask_at(vectors, v, mask));
         return Done {
             state: u,
             refusal: 0,
@@ -240,7 +240,7 @@ fn mask_msi_int(
     quiet_done(s, true)
 }
 
-/// The staged address, low and high, and data: kept only while MSI is on.
+/// The low half of the staged address: kept only while MSI is on.
 pub fn set_msi_address_low(s: MmioV2DeviceState, v: u32) -> MmioV2DeviceState
     ensures { λ r. ⌜ r ≡ staged s (withAddressLow (s .stage) v) ⌝ }
 {
@@ -248,6 +248,7 @@ pub fn set_msi_address_low(s: MmioV2DeviceState, v: u32) -> MmioV2DeviceState
     staged(s, stage.with_address_low(v))
 }
 
+/// The high half of the staged address: kept only while MSI is on.
 pub fn set_msi_address_high(s: MmioV2DeviceState, v: u32) -> MmioV2DeviceState
     ensures { λ r. ⌜ r ≡ staged s (withAddressHigh (s .stage) v) ⌝ }
 {
@@ -255,6 +256,7 @@ pub fn set_msi_address_high(s: MmioV2DeviceState, v: u32) -> MmioV2DeviceState
     staged(s, stage.with_address_high(v))
 }
 
+/// The staged data: kept only while MSI is on.
 pub fn set_msi_data(s: MmioV2DeviceState, v: u32) -> MmioV2DeviceState
     ensures { λ r. ⌜ r ≡ staged s (withData (s .stage) v) ⌝ }
 {
@@ -270,7 +272,7 @@ pub fn update_msi_enable(s: MmioV2DeviceState, v: u16, k: u32, actions: &mut [u6
     if actions.len() < ACTION_WORDS {
         return mmio_state::refuse(s);
     }
-    match mmio_parts::csr_of(s.hot.status, v, s.hot.msi) {
+    match mmio_hot::csr_of(s.hot.status, v, s.hot.msi) {
         Csr::Locked => {
             let u = s.set_driver_failed();
             quiet_done(u, false)
@@ -288,7 +290,7 @@ pub fn handle_msi_cmd(s: MmioV2DeviceState, v: u16, k: u32, actions: &mut [u64])
     if actions.len() < ACTION_WORDS {
         return mmio_state::refuse(s);
     }
-    match mmio_parts::command_at(v) {
+    match mmio_hot::command_at(v) {
         Command::Update(w) => update_msi_cfg(s, w, k, actions),
         Command::Mask(w) => mask_msi_int(s, w, true, ACTION_MASK, k, actions),
         Command::Unmask(w) => mask_msi_int(s, w, false, ACTION_UNMASK, k, actions),

@@ -23,8 +23,7 @@ use Rattle.activation.proofs.Every.{Every, none, more, Kinds, every-start, ever
 use Rattle.activation.proofs.Bound.{start-most, stop-most}
 use Rattle.activation.specs.Bound.{most}
 use Rattle.activation.specs.Requests.{stops}
-use Rattle.mmio_parts.specs.Polled.{maxVectors}
-use Rattle.mmio_parts.specs.Fresh.{noVector}
+use Rattle.mmio_config.specs.Fresh.{maxVectors, noVector}
 use Rattle.mmio_state.specs.State.{State, queuesIn, failedState}
 use Rattle.mmio_state.specs.Activation.{queuesValid, started, wiped, settled, starting, startsAt, activating, stopping, resetting}
 use Rattle.mmio_state.specs.Effect.{Effect, quiet}
@@ -141,7 +140,7 @@ activate-keeps s k d = go (s .flags .active)
     free : (q : ℕ) → s .config .count ≤ q → getD (heldAfter (s .config .base) (s .held) k (starting s k)) q noHeld ≡ noHeld
     free q h =
         spared (s .config .base) (queuesIn s) (starting s k)
-        (every-start (kinds (s .config .base) (queuesIn s)) (s .hot .doorbell) (s .flags .registered) (queuesValid s) k)
+        (every-start (kinds (s .config .base) (queuesIn s)) (s .hot .doorbell) (queuesValid s) k)
         k (s .held) q (rw (all-queues s d) h) (d .heldless q h)
 
     begun : Effect
@@ -226,7 +225,7 @@ unfolding starting
 activate-most s k = go (s .flags .active)
   where
     asked : length (starting s k) ≤ most (queuesIn s)
-    asked = start-most (s .config .base) (s .hot .doorbell) (queuesIn s) (s .flags .registered) (queuesValid s) k
+    asked = start-most (s .config .base) (s .hot .doorbell) (queuesIn s) (queuesValid s) k
 
     go : (t : Bool) → length (pick t (quiet s true) (record { state = settled s (startsAt s k) (heldAfter (s .config .base) (s .held) k (starting s k)); ok = startsAt s k; actions = starting s k }) .actions) ≤ most (queuesIn s)
     go true = omega arith

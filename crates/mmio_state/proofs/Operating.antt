@@ -19,9 +19,9 @@ use Rattle.tape.specs.declared.Tape.{Tape}
 use Rattle.tape.proofs.Playing.{played}
 use Rattle.activation.specs.Requests.{startRecords, begins, stopRecords, stops}
 use Rattle.activation.proofs.Bound.{start-most, stop-most}
-use Rattle.mmio_parts.specs.Fresh.{refusalOf, accepted, noConfig, freshHot, configured}
-use Rattle.mmio_parts.specs.declared.Configuration.{Configuration}
-use Rattle.mmio_parts.specs.declared.Configured.{Configured}
+use Rattle.mmio_config.specs.Fresh.{refusalOf, accepted, noConfig, freshHot, configured}
+use Rattle.mmio_config.specs.declared.Configuration.{Configuration}
+use Rattle.mmio_config.specs.declared.Configured.{Configured}
 use Rattle.mmio_state.specs.State.{State, queuesIn}
 use Rattle.mmio_state.specs.Effect.{Effect, quiet, ended, refused, done, written}
 use Rattle.mmio_state.specs.Fresh.{begun, noHot, made}
@@ -51,7 +51,7 @@ module _ (s : State) (k : ℕ) (after : Bool → List Held → State) where
 module _ (s : State) (k : ℕ) (l : List ℕ) (room : 320 ≤ length l) (t : Tape) (n : ℕ) (at : t ≡ blank s k) (is : n ≡ queuesIn s)
     (l′ : List ℕ) (u : Tape) (ok : Bool) where
   pub start-effect : s .flags .active ≡ false → (v : Bool) → v ≡ queuesValid s
-      → Played (s .config .base) l t (startRecords (s .config .base) (s .hot .doorbell) n (s .flags .registered) v (t .left)) l′ u
+      → Played (s .config .base) l t (startRecords (s .config .base) (s .hot .doorbell) n v (t .left)) l′ u
       → ok ≡ begins (s .hot .doorbell) n v (t .left)
       → (_≡_ {A = Done} (record { state = settled s ok (u .held); refusal = 0; ok = ok; count = u .count }) (ended (activating s k)))
       × (l′ ≡ laid l (activating s k .actions))
@@ -60,7 +60,7 @@ module _ (s : State) (k : ℕ) (l : List ℕ) (room : 320 ≤ length l) (t : Tap
       let o′ : ok ≡ startsAt s k = rw (at, is, q) at o in
       let e′ : Played (s .config .base) l (blank s k) (starting s k) l′ u = rw (at, is, q) at e in
       let b : 5 * length (starting s k) ≤ length l =
-      omega (arith, start-most (s .config .base) (s .hot .doorbell) (queuesIn s) (s .flags .registered) (queuesValid s) k)
+      omega (arith, start-most (s .config .base) (s .hot .doorbell) (queuesIn s) (queuesValid s) k)
       in
       let p = as-effect s k (settled s) l l′ u (starting s k) (startsAt s k) b e′ in
       (rw (o′, idle) (p .0), rw idle (p .1))

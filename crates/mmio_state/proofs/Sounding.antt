@@ -14,12 +14,11 @@ use Rattle.virtq.specs.Index.{maxQueues}
 use Rattle.virtq.specs.Fields.{freshQueue, noQueue}
 use Rattle.virtq.specs.declared.Queue.{Queue}
 use Rattle.tape.specs.Held.{noHeld, bellAddress, noteAddress}
-use Rattle.mmio_parts.specs.Polled.{maxVectors, maxRegions}
-use Rattle.mmio_parts.specs.Fresh.{refusalOf, queueCount, hasControl, maximumAt, maxima, freshQueues, noVector, noVectors}
-use Rattle.mmio_parts.specs.Tables.{counted}
-use Rattle.mmio_parts.specs.declared.Configuration.{Configuration}
-use Rattle.mmio_parts.specs.declared.Vector.{Vector}
-use Rattle.mmio_parts.proofs.Accepting.{Passed, passed, at-most-one}
+use Rattle.mmio_config.specs.Fresh.{maxVectors, maxRegions, refusalOf, queueCount, hasControl, maximumAt, maxima, freshQueues, noVector, noVectors}
+use Rattle.mmio_tables.specs.Tables.{counted}
+use Rattle.mmio_config.specs.declared.Configuration.{Configuration}
+use Rattle.mmio_config.specs.declared.Vector.{Vector}
+use Rattle.mmio_config.proofs.Accepting.{Passed, passed, at-most-one}
 use Rattle.mmio_state.specs.State.{State, queuesIn}
 use Rattle.mmio_state.specs.Fresh.{freshState}
 use Rattle.mmio_state.specs.Sound.{Sound}

@@ -1,5 +1,5 @@
 -- Activation and state reset as functions of the state (01, The ladder of status; State reset; Actions).
-use mathlib.Core.Bool.{Bool, true, false}
+use mathlib.Core.Bool.{Bool, true}
 use mathlib.Core.List.{List}
 use Prim.Native.Nat.{ℕ}
 use Rattle.words.specs.Pick.{pick}
@@ -8,10 +8,10 @@ use Rattle.dragonball.specs.Messages.{noMessage}
 use Rattle.tape.specs.Held.{heldAfter}
 use Rattle.tape.specs.declared.Held.{Held}
 use Rattle.activation.specs.Requests.{startRecords, begins, stopRecords, stops}
-use Rattle.mmio_parts.specs.Polled.{wipedHot}
-use Rattle.mmio_parts.specs.Fresh.{freshQueues, noFlags, noVectors}
-use Rattle.mmio_parts.specs.Tables.{validAll}
-use Rattle.mmio_parts.specs.declared.Flags.{Flags}
+use Rattle.mmio_hot.specs.Polled.{wipedHot}
+use Rattle.mmio_config.specs.Fresh.{freshQueues, noFlags, noVectors}
+use Rattle.mmio_tables.specs.Tables.{validAll}
+use Rattle.mmio_config.specs.declared.Flags.{Flags}
 use Rattle.mmio_state.specs.State.{State, queuesIn}
 use Rattle.mmio_state.specs.Effect.{Effect, quiet}
 
@@ -53,7 +53,7 @@ settled s ok hs = pick ok (started s hs) (wiped s hs)
 
 -- the records of a start, and whether it starts
 unfoldable pub starting : State → (k : ℕ) → List Action
-starting s k = startRecords (s .config .base) (s .hot .doorbell) (queuesIn s) (s .flags .registered) (queuesValid s) k
+starting s k = startRecords (s .config .base) (s .hot .doorbell) (queuesIn s) (queuesValid s) k
 
 unfoldable pub startsAt : State → (k : ℕ) → Bool
 startsAt s k = begins (s .hot .doorbell) (queuesIn s) (queuesValid s) k

@@ -1,6 +1,6 @@
 -- What an operation comes to: the state after it, whether what it asked was accepted, the actions it asks. And the answer of
 -- the code, with refusal 7 (01: "action space below 320 words: same device"; "7 is tested on every operation").
-use mathlib.Core.Bool.{Bool, true, false}
+use mathlib.Core.Bool.{Bool, false}
 use mathlib.Core.List.{List, []}
 use Prim.Native.Nat.{ℕ, _*_}
 use lib.Dec.{ltb}

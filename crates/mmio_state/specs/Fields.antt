@@ -8,11 +8,11 @@ use Rattle.words.specs.Pick.{pick}
 use Rattle.virtq.specs.declared.Field.{Field}
 use Rattle.virtq.specs.declared.Field.the-variants as F
 use Rattle.tape.specs.Actions.{ackFeatures}
-use Rattle.mmio_parts.specs.Tables.{sizeAt, fieldAt, updatedAt, foundAt, standingAt}
-use Rattle.mmio_parts.specs.declared.Found.{Found}
-use Rattle.mmio_parts.specs.declared.Reply.{Reply}
-use Rattle.mmio_parts.specs.declared.Standing.{Standing}
-use Rattle.mmio_parts.specs.declared.Kind.{Kind}
+use Rattle.mmio_tables.specs.Tables.{sizeAt, fieldAt, updatedAt, foundAt, standingAt}
+use Rattle.mmio_tables.specs.declared.Found.{Found}
+use Rattle.mmio_tables.specs.declared.Reply.{Reply}
+use Rattle.mmio_tables.specs.declared.Standing.{Standing}
+use Rattle.mmio_tables.specs.declared.Kind.{Kind}
 use Rattle.mmio_state.specs.State.{State, queuesIn, withQueues}
 use Rattle.mmio_state.specs.Effect.{Effect}
 

@@ -1,17 +1,15 @@
--- A fresh state (01, "What the gateway hands over"; the refusals and what is kept of a configuration are in mmio_parts).
+-- A fresh state (01, "What the gateway hands over"; the refusals and what is kept of a configuration are in mmio_config).
 use mathlib.Core.Bool.{false}
-use Prim.Native.Nat.{ℕ}
 use lib.Dec.{eqb}
 use lib.ListN.{replicate}
 use Rattle.words.specs.Pick.{pick}
 use Rattle.virtq.specs.Index.{maxQueues}
-use Rattle.virtq.specs.Fields.{freshQueue}
 use Rattle.dragonball.specs.Messages.{noMessage}
 use Rattle.tape.specs.Held.{noHeld}
-use Rattle.mmio_parts.specs.Fresh.{accepted, freshHot, freshQueues, maxima, noConfig, noFlags, noVectors, refusalOf}
-use Rattle.mmio_parts.specs.declared.Configuration.{Configuration}
-use Rattle.mmio_parts.specs.declared.Config.{Config}
-use Rattle.mmio_parts.specs.declared.Hot.{Hot}
+use Rattle.mmio_config.specs.Fresh.{accepted, freshHot, freshQueues, noConfig, noFlags, noVectors, refusalOf}
+use Rattle.mmio_config.specs.declared.Configuration.{Configuration}
+use Rattle.mmio_config.specs.declared.Config.{Config}
+use Rattle.mmio_hot.specs.declared.Hot.{Hot}
 use Rattle.mmio_state.specs.State.{State}
 use Rattle.mmio_state.specs.declared.Made.{Made}
 

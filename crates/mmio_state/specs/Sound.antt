@@ -1,6 +1,6 @@
 -- Which states are real: what a fresh state has and every operation keeps. A struct can hold values that no run leaves; the
 -- promises answer for those too, and this says which they are.
-use mathlib.Core.Bool.{Bool, true, false}
+use mathlib.Core.Bool.{false}
 use mathlib.Core.Path.{_≡_}
 use Prim.Native.Nat.{ℕ, _-_, _^_, _≤_}
 use lib.ListN.{getD}
@@ -8,8 +8,7 @@ use Rattle.virtq.specs.Index.{maxQueues}
 use Rattle.virtq.specs.Fields.{noQueue}
 use Rattle.dragonball.specs.Messages.{noMessage}
 use Rattle.tape.specs.Held.{noHeld}
-use Rattle.mmio_parts.specs.Polled.{maxVectors, maxRegions}
-use Rattle.mmio_parts.specs.Fresh.{noVector}
+use Rattle.mmio_config.specs.Fresh.{maxVectors, maxRegions, noVector}
 use Rattle.mmio_state.specs.State.{State}
 
 pub record Sound (s : State) : Type 0 where

@@ -1,15 +1,12 @@
 -- The state, and the state with one of its parts changed.
-use mathlib.Core.Bool.{Bool, true, false}
 use mathlib.Core.List.{List}
 use Prim.Native.Nat.{ℕ}
 use Rattle.virtq.specs.declared.Queue.{Queue}
 use Rattle.dragonball.specs.declared.Msi.{Msi}
-use Rattle.tape.specs.declared.Held.{Held}
-use Rattle.mmio_parts.specs.Polled.{failed, withStatus}
-use Rattle.mmio_parts.specs.Tables.{counted}
-use Rattle.mmio_parts.specs.declared.Hot.{Hot}
-use Rattle.mmio_parts.specs.declared.Flags.{Flags}
-use Rattle.mmio_parts.specs.declared.Vector.{Vector}
+use Rattle.mmio_hot.specs.Polled.{failed, withStatus}
+use Rattle.mmio_tables.specs.Tables.{counted}
+use Rattle.mmio_hot.specs.declared.Hot.{Hot}
+use Rattle.mmio_config.specs.declared.Vector.{Vector}
 use Rattle.mmio_state.specs.declared.MmioV2DeviceState.{MmioV2DeviceState}
 
 abbrev pub State : Type 0

@@ -18,16 +18,16 @@ ghost use Rattle.mmio_state.specs.Fresh.{begun, made, noHot, noState};
 ghost use Rattle.mmio_state.specs.Activation.{activating, queuesValid, resetting, settled, started, wiped};
 ghost use Rattle.mmio_state.specs.Fields.{acking, asked, askedHeld, fieldWritten, offered, selectedMax, selectedReady, selectedRegion};
 use dragonball::Msi;
-use mmio_parts::Config;
-use mmio_parts::Configuration;
-use mmio_parts::Flags;
-use mmio_parts::Found;
-use mmio_parts::Hot;
-use mmio_parts::Kind;
-use mmio_parts::MAX_VECTORS;
-use mmio_parts::Reply;
-use mmio_parts::Standing;
-use mmio_parts::Vector;
+use mmio_config::Config;
+use mmio_config::Configuration;
+use mmio_config::Flags;
+use mmio_config::MAX_VECTORS;
+use mmio_config::Vector;
+use mmio_hot::Hot;
+use mmio_tables::Found;
+use mmio_tables::Kind;
+use mmio_tables::Reply;
+use mmio_tables::Standing;
 use tape::ACTION_ACKED_FEATURES;
 use tape::Held;
 use tape::Tape;
@@ -78,11 +78,11 @@ fn begun(hot: Hot, config: Config) -> MmioV2DeviceState
     MmioV2DeviceState {
         hot,
         config,
-        flags: mmio_parts::no_flags(),
+        flags: mmio_config::no_flags(),
         stage: Msi::default(),
-        queues: mmio_parts::create_queues(sizes),
-        held: [mmio_parts::no_held(); MAX_QUEUES],
-        vectors: [mmio_parts::no_vector(); MAX_VECTORS],
+        queues: mmio_config::create_queues(sizes),
+        held: [mmio_config::no_held(); MAX_QUEUES],
+        vectors: [mmio_config::no_vector(); MAX_VECTORS],
     }
 }
 
@@ -180,18 +180,10 @@ fn attempt(s: MmioV2DeviceState, k: u32, actions: &mut [u64]) -> Done
 {
     let held = s.held;
     let queues = s.queues;
-    let n = mmio_parts::queues_in(s.config.count);
-    let valid = mmio_parts::all_valid(queues, s.config.count, s.config.memory);
+    let n = mmio_tables::queues_in(s.config.count);
+    let valid = mmio_tables::all_valid(queues, s.config.count, s.config.memory);
     let t = tape_of(held, k);
-    let b = activation::start(
-        &mut *actions,
-        t,
-        s.config.base,
-        s.hot.doorbell,
-        n,
-        s.flags.registered,
-        valid,
-    );
+    let b = activation::start(&mut *actions, t, s.config.base, s.hot.doorbell, n, valid);
     let u = b.tape;
     settle(s, u, b.ok)
 }
@@ -223,7 +215,7 @@ fn shut(s: MmioV2DeviceState, k: u32, actions: &mut [u64]) -> Done
     ensures { λ r. ⌜ now (actions .exit) ≡ laid (now (actions .entry)) (resetting s k .actions) ⌝ }
 {
     let held = s.held;
-    let n = mmio_parts::queues_in(s.config.count);
+    let n = mmio_tables::queues_in(s.config.count);
     let t = tape_of(held, k);
     let b = activation::stop(
         &mut *actions,
@@ -254,10 +246,10 @@ impl MmioV2DeviceState {
     pub fn new(c: Configuration) -> Made
         ensures { λ r. ⌜ r ≡ made c ⌝ }
     {
-        let g = mmio_parts::configure(c);
+        let g = mmio_config::configure(c);
         let config = g.config;
         if g.refusal == 0 {
-            let s = begun(mmio_parts::fresh_hot(c), config);
+            let s = begun(mmio_config::fresh_hot(c), config);
             return Made {
                 refusal: 0,
                 state: s,
@@ -274,7 +266,7 @@ impl MmioV2DeviceState {
     pub fn none() -> Self
         ensures { λ r. ⌜ r ≡ noState ⌝ }
     {
-        let config = mmio_parts::no_config();
+        let config = mmio_config::no_config();
         begun(no_hot(), config)
     }
 
@@ -342,7 +334,7 @@ impl MmioV2DeviceState {
         ensures { λ r. ⌜ r ≡ queuesValid self ⌝ }
     {
         let queues = self.queues;
-        mmio_parts::all_valid(queues, self.config.count, self.config.memory)
+        mmio_tables::all_valid(queues, self.config.count, self.config.memory)
     }
 
     /// The maximum size of the selected queue, 0 if there is none: 034.
@@ -350,7 +342,7 @@ impl MmioV2DeviceState {
         ensures { λ r. ⌜ r ≡ selectedMax self ⌝ }
     {
         let sizes = self.config.sizes;
-        mmio_parts::size_at(sizes, QueueIndex(self.hot.queue), self.config.count)
+        mmio_tables::size_at(sizes, QueueIndex(self.hot.queue), self.config.count)
     }
 
     /// Whether the selected queue is ready, 0 if there is none: 044.
@@ -358,7 +350,7 @@ impl MmioV2DeviceState {
         ensures { λ r. ⌜ r ≡ selectedReady self ⌝ }
     {
         let queues = self.queues;
-        mmio_parts::field_at(
+        mmio_tables::field_at(
             queues,
             QueueIndex(self.hot.queue),
             self.config.count,
@@ -372,7 +364,7 @@ impl MmioV2DeviceState {
     {
         let queues = self.queues;
         let sizes = self.config.sizes;
-        let out = mmio_parts::update_at(
+        let out = mmio_tables::update_at(
             queues,
             sizes,
             QueueIndex(self.hot.queue),
@@ -403,7 +395,7 @@ impl MmioV2DeviceState {
         ensures { λ r. ⌜ r ≡ selectedRegion self ⌝ }
     {
         let table = self.config.table;
-        mmio_parts::found_at(table, self.hot.region, self.config.regions)
+        mmio_tables::found_at(table, self.hot.region, self.config.regions)
     }
 
     /// What a field of a queue holds, or refusal 13.
@@ -411,8 +403,8 @@ impl MmioV2DeviceState {
         ensures { λ r. ⌜ r ≡ asked self (q .0) f ⌝ }
     {
         let queues = self.queues;
-        let value = mmio_parts::field_at(queues, q, self.config.count, f);
-        if q.0 < mmio_parts::queues_in(self.config.count) {
+        let value = mmio_tables::field_at(queues, q, self.config.count, f);
+        if q.0 < mmio_tables::queues_in(self.config.count) {
             return Reply { refusal: 0, value };
         }
         Reply { refusal: 13, value }
@@ -423,6 +415,6 @@ impl MmioV2DeviceState {
         ensures { λ r. ⌜ r ≡ askedHeld self (q .0) k ⌝ }
     {
         let held = self.held;
-        mmio_parts::standing_at(held, q, self.config.count, self.config.base, k)
+        mmio_tables::standing_at(held, q, self.config.count, self.config.base, k)
     }
 }

@@ -11,7 +11,7 @@ use Rattle.tape.specs.Play.{laid}
 use Rattle.registers.specs.Registers.{readAt, writeAt}
 use Rattle.registers.specs.declared.ReadRegister.{ReadRegister}
 use Rattle.registers.specs.declared.WriteRegister.{WriteRegister}
-use Rattle.mmio_parts.specs.declared.Configuration.{Configuration}
+use Rattle.mmio_config.specs.declared.Configuration.{Configuration}
 use Rattle.mmio_state.specs.State.{State}
 use Rattle.mmio_state.specs.Effect.{Effect, ended, quiet, done, written}
 use Rattle.mmio_state.specs.Fresh.{made, noState}

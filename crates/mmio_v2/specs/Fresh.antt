@@ -3,8 +3,8 @@ use mathlib.Core.Bool.{not}
 use Prim.Native.Nat.{ℕ}
 use lib.Dec.{eqb}
 use Rattle.words.specs.Pick.{pick}
-use Rattle.mmio_parts.specs.Fresh.{refusalOf}
-use Rattle.mmio_parts.specs.declared.Configuration.{Configuration}
+use Rattle.mmio_config.specs.Fresh.{refusalOf}
+use Rattle.mmio_config.specs.declared.Configuration.{Configuration}
 use Rattle.mmio_state.specs.State.{State}
 use Rattle.mmio_state.specs.Fresh.{freshState, noState}
 use Rattle.mmio_v2.specs.declared.MmioV2Device.{MmioV2Device}

@@ -1,6 +1,6 @@
 -- Where the port's register list and the standard's part. Both lists are read as one kind of answer, so that they can be
 -- held side by side at any offset, any length and both directions.
-use mathlib.Core.Bool.{Bool, true, false, not, _&&_}
+use mathlib.Core.Bool.{Bool, true, false, _&&_}
 use mathlib.Core.List.{List, [], _∷_, _++_}
 use Prim.Native.Nat.{ℕ, zero, suc, _+_, _-_}
 use lib.Dec.{eqb, leb}

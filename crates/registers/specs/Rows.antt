@@ -1,5 +1,5 @@
 -- A list of registers, and looking one up by the offset and the length of an access.
-use mathlib.Core.Bool.{Bool, _&&_}
+use mathlib.Core.Bool.{_&&_}
 use mathlib.Core.List.{List, [], _∷_}
 use Prim.Native.Nat.{ℕ}
 use lib.Dec.{eqb}

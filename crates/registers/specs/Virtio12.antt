@@ -4,9 +4,9 @@ use mathlib.Core.Bool.{Bool, true, false}
 use mathlib.Core.List.{List, [], _∷_}
 use Prim.Native.Nat.{ℕ, _+_, _-_, _*_, _/_, _%_, _^_}
 use lib.Bits.{bitAnd, bitOr}
-use lib.Dec.{eqb, leb}
+use lib.Dec.{eqb}
 use Rattle.words.specs.Pick.{pick}
-use Rattle.registers.specs.Rows.{Row, row, find}
+use Rattle.registers.specs.Rows.{Row, row}
 
 -- ---- 2.1, the device status field
 

@@ -1,5 +1,5 @@
 use Rattle.mmio_msi.specs.Messages.{commanding}
-use Rattle.mmio_parts.proofs.Messaging.{update-small}
+use Rattle.mmio_hot.proofs.Messaging.{update-small}
 use Rattle.mmio_msi.proofs.Messaging.{by-command}
 use Rattle.mmio_state.proofs.Operating.{no-room}
 use mathlib.Core.Path.{refl, sym, _∙_}

@@ -1,0 +1,3 @@
+-- How the code comes to the definitions, and what each promise determines.
+pub mod Tables
+pub mod Determined

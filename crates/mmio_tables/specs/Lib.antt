@@ -1,0 +1,2 @@
+-- One entry of each table.
+pub mod Tables
