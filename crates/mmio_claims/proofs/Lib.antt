@@ -1,0 +1,4 @@
+-- What the step comes to: its bounds, what it keeps, what shuts lookalikes out.
+pub mod Bounds
+pub mod Keeping
+pub mod Lookalikes
