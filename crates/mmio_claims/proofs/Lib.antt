@@ -2,3 +2,5 @@
 pub mod Bounds
 pub mod Keeping
 pub mod Lookalikes
+pub mod Reading12
+pub mod Writing12

@@ -26,11 +26,11 @@ use Rattle.mmio_ladder.specs.declared.Move.the-variants.{Take, Start, Re
 
 -- ---- the ten statuses
 
-data All (P : ℕ → Type 0) : List ℕ → Type 0 where
+pub data All (P : ℕ → Type 0) : List ℕ → Type 0 where
   none : All P []
   more : {x : ℕ} {xs : List ℕ} → P x → All P xs → All P (x ∷ xs)
 
-member : (P : ℕ → Type 0) (v : ℕ) (xs : List ℕ) → All P xs → among v xs ≡ true → P v
+pub member : (P : ℕ → Type 0) (v : ℕ) (xs : List ℕ) → All P xs → among v xs ≡ true → P v
 member P v [] none h = absurd (true≢false (sym h))
 member P v (x ∷ xs) (more p m) h = go (eqb v x) refl h (member P v xs m)
   where
