@@ -32,7 +32,8 @@ use Rattle.mmio_ladder.specs.declared.Move.{Move}
 use Rattle.mmio_ladder.specs.declared.Move.the-variants as M
 use Rattle.mmio_access.specs.Gates.{acksOpen, configOpen}
 use Rattle.mmio_v2.specs.Registers.{readAsks, does}
-use Rattle.mmio_v2.specs.Step.{Operation, Read, Write, Raise, Outcome, refusing, operated, step, answerOf}
+use Rattle.mmio_v2.specs.Operation.{Operation, Read, Write, Raise}
+use Rattle.mmio_v2.specs.Step.{Outcome, refusing, operated, step, answerOf}
 
 -- ---- refusal 7
 

@@ -34,7 +34,8 @@ use Rattle.mmio_access.specs.Gates.{fieldsOpen}
 use Rattle.mmio_access.specs.Changes.{fieldUpdated}
 use Rattle.mmio_v2.specs.Fresh.{refusal}
 use Rattle.mmio_v2.specs.Registers.{does}
-use Rattle.mmio_v2.specs.Step.{Operation, Read, Write, Raise, Outcome, refusing, operated, step}
+use Rattle.mmio_v2.specs.Operation.{Operation, Read, Write, Raise}
+use Rattle.mmio_v2.specs.Step.{refusing, operated, step}
 
 -- ---- a fresh one
 

@@ -9,7 +9,8 @@ use lib.Dec.{eqb}
 use lib.ListN.{getD}
 use Rattle.words.specs.Bytes.{readLe}
 use Rattle.mmio_state.specs.State.{State}
-use Rattle.mmio_v2.specs.Step.{Read, Write, step}
+use Rattle.mmio_v2.specs.Operation.{Read, Write}
+use Rattle.mmio_v2.specs.Step.{step}
 
 -- it does not refuse everything
 pub not-all-refused : (s : State) → step 320 s (Read 0 0x000 4) .refusal ≡ 0

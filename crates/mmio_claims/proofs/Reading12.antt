@@ -20,7 +20,7 @@ use Rattle.registers.specs.declared.ReadRegister.the-variants as R
 use Rattle.mmio_state.specs.State.{State, queuesIn}
 use Rattle.mmio_access.specs.Shown.{deviceFeatures}
 use Rattle.mmio_v2.specs.Registers.{shows, bytesShown}
-use Rattle.mmio_v2.specs.Step as step
+use Rattle.mmio_v2.specs.Operation as op
 use Rattle.mmio_v2.specs.Step.{operated}
 use Rattle.mmio_claims.specs.Standard.{features, plain, Typed, replyOf, placeReads, readParts}
 
@@ -90,5 +90,5 @@ module _ (s : State) (t : Typed s) (f : ℕ → ℕ) (n : List ℕ) where
 
   -- the step's reply
   pub reads-as-standard : (k o l : ℕ) → readParts s (readAt o l) ≡ false
-      → operated s (step.Read k o l) .reply ≡ replyOf (placeReads (plain s f n) (portPlace Read o l))
+      → operated s (op.Read k o l) .reply ≡ replyOf (placeReads (plain s f n) (portPlace Read o l))
   reads-as-standard k o l h = register-reads (readAt o l) h

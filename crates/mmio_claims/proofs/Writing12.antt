@@ -45,7 +45,7 @@ use Rattle.mmio_ladder.proofs.Keeping as ladder
 use Rattle.mmio_access.specs.Gates.{acksOpen, configOpen, fieldsOpen}
 use Rattle.mmio_access.specs.Changes.{fieldUpdated}
 use Rattle.mmio_v2.specs.Registers.{does}
-use Rattle.mmio_v2.specs.Step as step
+use Rattle.mmio_v2.specs.Operation as op
 use Rattle.mmio_v2.specs.Step.{operated}
 use Rattle.mmio_claims.specs.Standard.{ring, ringOf, plain, Typed, placeWrites, acceptedAfter, whole, lays, sets, writeParts}
 
@@ -280,7 +280,7 @@ module _ (s : State) (r : Real s) (t : Typed s) (f : ℕ → ℕ) (n : List ℕ)
 
   -- the step's effect, of the word written
   pub writes-as-standard : (k o : ℕ) (bs : List ℕ) → writeParts s (readLe 4 bs) k (writeAt o (length bs)) ≡ false
-      → plain (operated s (step.Write k o bs) .state) (acceptedAfter (operated s (step.Write k o bs) .actions) f) n
+      → plain (operated s (op.Write k o bs) .state) (acceptedAfter (operated s (op.Write k o bs) .actions) f) n
       ≡ placeWrites (plain s f n) (portPlace Write o (length bs)) (readLe 4 bs)
   writes-as-standard k o bs h = register-writes (readLe 4 bs) (readLe 2 bs) (length bs) k (writeAt o (length bs)) h
 

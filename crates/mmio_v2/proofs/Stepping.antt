@@ -21,7 +21,8 @@ use Rattle.mmio_state.proofs.Cases.{room-ended}
 use Rattle.mmio_access.specs.Changes.{raised}
 use Rattle.mmio_v2.specs.Fresh.{device, madeDevice}
 use Rattle.mmio_v2.specs.Registers.{shows, bytesShown, readAsks, does}
-use Rattle.mmio_v2.specs.Step.{Operation, Read, Write, Raise, Outcome, refusing, operated, step, answerOf, replied, ofDone}
+use Rattle.mmio_v2.specs.Operation.{Operation, Read, Write, Raise}
+use Rattle.mmio_v2.specs.Step.{Outcome, refusing, operated, step, answerOf, replied, ofDone}
 use Rattle.mmio_v2.specs.declared.Answer.{Answer}
 use Rattle.mmio_v2.specs.declared.MadeDevice.{MadeDevice}
 use Rattle.mmio_v2.specs.declared.MmioV2Device.{MmioV2Device}

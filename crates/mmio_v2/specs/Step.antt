@@ -14,15 +14,10 @@ use Rattle.mmio_state.specs.State.{State}
 use Rattle.mmio_state.specs.Effect.{Effect, roomWords}
 use Rattle.mmio_state.specs.declared.Done.{Done}
 use Rattle.mmio_access.specs.Changes.{raised}
+use Rattle.mmio_v2.specs.Operation.{Operation, Read, Write, Raise}
 use Rattle.mmio_v2.specs.Fresh.{device}
 use Rattle.mmio_v2.specs.Registers.{shows, bytesShown, readAsks, does}
 use Rattle.mmio_v2.specs.declared.Answer.{Answer}
-
--- "read, write, and (added by design) raise interrupt bits. Each read or write carries an outcome number k"
-pub data Operation : Type 0 where
-  Read : (k offset length : ℕ) → Operation
-  Write : (k offset : ℕ) → (bytes : List ℕ) → Operation
-  Raise : (bits : ℕ) → Operation
 
 -- what comes back: the refusal's number or 0, the state, the reply's bytes (none: no reply), the actions asked
 pub record Outcome : Type 0 where

@@ -1,4 +1,4 @@
-use Rattle.mmio_v2.specs.Step.{Raise}
+use Rattle.mmio_v2.specs.Operation.{Raise}
 use mathlib.Core.Path.{refl}
 use Rattle.mmio_v2.proofs.Stepping.{refuse-step, raise-step}
 use borrow.Author.Needs.{needs}

@@ -1,6 +1,6 @@
 use denote.Ref.{now}
 use lib.ListN.{length}
-use Rattle.mmio_v2.specs.Step.{Read}
+use Rattle.mmio_v2.specs.Operation.{Read}
 use Rattle.mmio_v2.proofs.Found.{shown-fits}
 use Rattle.mmio_v2.proofs.Stepping.{refuse-read, read-step}
 use borrow.Author.Needs.{needs}

@@ -1,5 +1,5 @@
 use denote.Ref.{now}
-use Rattle.mmio_v2.specs.Step.{Write}
+use Rattle.mmio_v2.specs.Operation.{Write}
 use Rattle.mmio_v2.proofs.Stepping.{refuse-step, write-step}
 use borrow.Author.Needs.{needs}
 use Rattle.mmio_v2.proofs.MmioV2Device.write.Statement.{statement}
