@@ -105,7 +105,7 @@ module _ (s : State) (r : Real s) where
   does-real v h l k (W.Config n) = r
   does-real v h l k W.Unknown = r
 
-  operated-real : (op : Operation) → Real (operated s op .state)
+  pub operated-real : (op : Operation) → Real (operated s op .state)
   operated-real (Read k o l) = r
   operated-real (Write k o bs) = does-real _ _ (length bs) k (writeAt o (length bs))
   operated-real (Raise b) = same-real r (hot-keeps s _ refl (r .sound)) refl refl

@@ -1,0 +1,2 @@
+-- Theorems over whole runs.
+pub mod Following
