@@ -265,7 +265,7 @@ module _ (c : Configuration) (s : State) (p : Kind c s) where
       go true false d = refl
       go false b d = refl
 
-  does-queues : (v h l k : ℕ) (x : WriteRegister) → does s v h l k x .state .queues ≡ applyAll (freshQueues (maxima c)) (eventsOf c (knownOf s) held v k x) (s .queues)
+  pub does-queues : (v h l k : ℕ) (x : WriteRegister) → does s v h l k x .state .queues ≡ applyAll (freshQueues (maxima c)) (eventsOf c (knownOf s) held v k x) (s .queues)
   does-queues v h l k W.DeviceFeatureSel = refl
   does-queues v h l k W.DriverFeature = refl
   does-queues v h l k W.DriverFeatureSel = refl

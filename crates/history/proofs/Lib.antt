@@ -1,2 +1,4 @@
 -- Theorems over whole runs.
 pub mod Following
+pub mod Afresh
+pub mod Striking
