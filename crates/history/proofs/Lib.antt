@@ -2,3 +2,5 @@
 pub mod Following
 pub mod Afresh
 pub mod Striking
+pub mod Failing
+pub mod Cases
