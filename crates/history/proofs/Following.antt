@@ -120,11 +120,6 @@ does-config s v h l k W.MsiCommand = go (commandAt h)
 does-config s v h l k (W.Config n) = refl
 does-config s v h l k W.Unknown = refl
 
-pub next-config : (s : State) (op : Operation) → next s op .config ≡ s .config
-next-config s (Read k o l) = refl
-next-config s (Write k o bs) = does-config s (readLe 4 bs) (readLe 2 bs) (length bs) k (writeAt o (length bs))
-next-config s (Raise b) = refl
-
 -- ---- the scan looks at no queue past the count
 
 scan-same : (m : Memory) (g h : Holds) (i n : ℕ) → ((j : ℕ) → i ≤ j → j < i + n → g j ≡ h j) → scanned m g i n ≡ scanned m h i n
@@ -297,6 +292,22 @@ module _ (c : Configuration) (s : State) (p : Kind c s) where
   does-queues v h l k (W.Config n) = refl
   does-queues v h l k W.Unknown = refl
 
+  -- each operation: what is known after it, and the queues
+  next-known : (op : Operation) → knownOf (next s op) ≡ rules c .known (knownOf s) held op
+  next-known (Read k o l) = refl
+  next-known (Write k o bs) = does-known (readLe 4 bs) (readLe 2 bs) (length bs) k (writeAt o (length bs))
+  next-known (Raise b) = refl
+
+  next-queues : (op : Operation) → next s op .queues ≡ applyAll (freshQueues (maxima c)) (rules c .events (knownOf s) held op) (s .queues)
+  next-queues (Read k o l) = refl
+  next-queues (Write k o bs) = does-queues (readLe 4 bs) (readLe 2 bs) (length bs) k (writeAt o (length bs))
+  next-queues (Raise b) = refl
+
+pub next-config : (s : State) (op : Operation) → next s op .config ≡ s .config
+next-config s (Read k o l) = refl
+next-config s (Write k o bs) = does-config s (readLe 4 bs) (readLe 2 bs) (length bs) k (writeAt o (length bs))
+next-config s (Raise b) = refl
+
 -- ---- the rules are followed
 
 fresh-queue : (sizes : List ℕ) (q : ℕ) → getD (freshQueues sizes) q noQueue ≡ freshQueue (getD sizes q 0)
@@ -329,21 +340,11 @@ module _ (c : Configuration) (made : refusal c ≡ 0) (sixteen : length (c .size
   follows =
       record {
         stays = λ s op p. record { configured = next-config s op ∙ p .configured; real = operated-real s (p .real) op };
-        known-next = known;
-        queues-next = queues;
+        known-next = λ s op p. next-known c s p op;
+        queues-next = λ s op p. next-queues c s p op;
         wiped-fresh = fresh-fields;
         enough = room;
       }
-    where
-      known : (s : State) (op : Operation) → Kind c s → knownOf (next s op) ≡ rules c .known (knownOf s) (first (queueCount c) (fieldsOf (s .queues))) op
-      known s (Read k o l) p = refl
-      known s (Write k o bs) p = does-known c s p (readLe 4 bs) (readLe 2 bs) (length bs) k (writeAt o (length bs))
-      known s (Raise b) p = refl
-
-      queues : (s : State) (op : Operation) → Kind c s → next s op .queues ≡ applyAll (freshQueues (maxima c)) (rules c .events (knownOf s) (first (queueCount c) (fieldsOf (s .queues))) op) (s .queues)
-      queues s (Read k o l) p = refl
-      queues s (Write k o bs) p = does-queues c s p (readLe 4 bs) (readLe 2 bs) (length bs) k (writeAt o (length bs))
-      queues s (Raise b) p = refl
 
   pub starts : Begins (fresh c) (Kind c) knownOf (λ (s : State). s .queues) (freshQueues (maxima c)) (freshState c)
   starts =
