@@ -2,4 +2,3 @@
 pub mod Log
 pub mod Run
 pub mod Cases
-
