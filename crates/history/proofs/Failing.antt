@@ -146,7 +146,7 @@ failed-stays s later log = runs.run-keeps Failed next next-keeps s later log
 
 -- ---- PREFIX
 
--- the replies and actions of a whole run are those of its later part, before those of its earlier part; and these are the
+-- the replies, actions and fields of a whole run are those of its later part, before those of its earlier part; and these are the
 -- earlier part's alone
 pub prefix : (c : Configuration) (later earlier : List Operation) → sees c [] (later ++ earlier) ≡ sees c earlier later ++ sees c [] earlier
 prefix c later earlier = runs.prefix next seen (freshState c) later earlier

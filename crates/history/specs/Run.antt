@@ -9,12 +9,15 @@ use Rattle.words.specs.Pick.{pick}
 use Rattle.words.specs.Bits.{bit}
 use Rattle.words.specs.Bytes.{readLe}
 use Rattle.words.specs.declared.Action.{Action}
+use Rattle.virtq.specs.declared.Field.{Field}
 use Rattle.registers.specs.Registers.{writeAt}
 use Rattle.registers.specs.declared.WriteRegister.{WriteRegister}
 use Rattle.registers.specs.declared.WriteRegister.the-variants as W
 use Rattle.mmio_config.specs.declared.Configuration.{Configuration}
+use Rattle.mmio_tables.specs.declared.Reply.{Reply}
 use Rattle.mmio_state.specs.State.{State}
 use Rattle.mmio_state.specs.Effect.{roomWords}
+use Rattle.mmio_state.specs.Fields.{asked}
 use Rattle.mmio_state.specs.Fresh.{freshState}
 use Rattle.mmio_v2.specs.Operation.{Operation}
 use Rattle.mmio_v2.specs.Step.{operated, step}
@@ -29,13 +32,14 @@ next s op = operated s op .state
 abbrev pub run : Configuration → List Operation → State
 run c log = runFrom next (freshState c) log
 
--- what the outside sees of a step
+-- what the outside sees of a step: the reply, the actions, and what the question then says of each field
 pub record Seen : Type 0 where
   pub reply : List ℕ
   pub actions : List Action
+  pub fields : (q : ℕ) → Field → Reply
 
 abbrev pub seen : State → Operation → Seen
-seen s op = record { reply = operated s op .reply; actions = operated s op .actions }
+seen s op = record { reply = operated s op .reply; actions = operated s op .actions; fields = asked (next s op) }
 
 -- what is seen of each operation of `later`, after `earlier`
 abbrev pub sees : Configuration → (earlier later : List Operation) → List Seen
