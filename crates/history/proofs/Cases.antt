@@ -2,7 +2,6 @@
 -- out and starts sixteen queues.
 use mathlib.Core.Path.{_≡_, refl}
 use mathlib.Core.List.{List, [], _∷_, _++_}
-use Prim.Native.Nat.{ℕ}
 use Rattle.words.specs.Bytes.{readLe}
 use Rattle.virtq.specs.Valid.{scanned}
 use Rattle.virtq.specs.declared.Field.the-variants.{AvailLow}

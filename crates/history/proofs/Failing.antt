@@ -25,14 +25,14 @@ use Rattle.mmio_state.specs.State.{State, failedState}
 use Rattle.mmio_state.specs.Fresh.{freshState}
 use Rattle.mmio_msi.specs.Messages.{turned, controlled, commanded}
 use Rattle.mmio_ladder.specs.Ladder.{from, downMove, otherMove, moveOf, statusAfter}
-use Rattle.mmio_ladder.specs.Climbing.{laddered, moved}
+use Rattle.mmio_ladder.specs.Climbing.{moved}
 use Rattle.mmio_ladder.specs.declared.Move.{Move}
 use Rattle.mmio_ladder.specs.declared.Move.the-variants.{Take, Start, Reset, Stay, Fail}
 use Rattle.mmio_v2.specs.Operation.{Operation, Read, Write, Raise}
 use Rattle.mmio_v2.specs.Registers.{does}
 use Rattle.runs.specs.Runs.{runFrom}
 use Rattle.runs.proofs.Runs as runs
-use Rattle.history.specs.Run.{next, run, seen, sees, Failed}
+use Rattle.history.specs.Run.{next, seen, sees, Failed}
 
 -- ---- FAILED, as a bit
 

@@ -3,14 +3,13 @@
 use mathlib.Core.Bool.{Bool, true, false, not, _&&_, true≢false}
 use mathlib.Core.Path.{_≡_, refl, sym, ap, fun-ext, _∙_}
 use mathlib.Core.List.{List, [], _∷_}
-use Prim.Native.Nat.{ℕ, zero, suc, _+_, _≤_, _<_, min}
+use Prim.Native.Nat.{ℕ, zero, suc, _+_, _≤_, _<_}
 use native.Mathlib.Omega.{arith}
 use borrow.Author.Tests.{lt-ltb}
 use lib.Dec.{eqb, ltb}
 use lib.ListN.{length, getD, set}
 use Rattle.words.specs.Pick.{pick}
 use Rattle.words.specs.Bytes.{readLe}
-use Rattle.words.specs.declared.Action.{Action}
 use Rattle.words.proofs.Lists.{length-each}
 use Rattle.virtq.specs.Index.{maxQueues}
 use Rattle.virtq.specs.Fields.{fit, put, updated, fieldOf, fieldsOf, freshQueue, noQueue}
@@ -39,8 +38,8 @@ use Rattle.mmio_config.specs.declared.Config.{Config}
 use Rattle.mmio_config.specs.declared.Configuration.{Configuration}
 use Rattle.mmio_tables.specs.Tables.{noneFound, validAll}
 use Rattle.mmio_state.specs.State.{State, queuesIn, failedState}
-use Rattle.mmio_state.specs.Effect.{Effect, quiet}
-use Rattle.mmio_state.specs.Activation.{wiped, settled, queuesValid, starting, startsAt, activating, stopping, resetting}
+use Rattle.mmio_state.specs.Effect.{quiet}
+use Rattle.mmio_state.specs.Activation.{wiped, settled, starting, startsAt, stopping}
 use Rattle.mmio_state.specs.Fresh.{freshState}
 use Rattle.mmio_msi.specs.Messages as device
 use Rattle.mmio_ladder.specs.Ladder.{moveOf, statusAfter}
@@ -55,7 +54,7 @@ use Rattle.mmio_v2.specs.Operation.{Operation, Read, Write, Raise}
 use Rattle.mmio_v2.specs.Registers.{does}
 use Rattle.mmio_claims.proofs.Keeping.{operated-real, fresh-real}
 use Rattle.runs.specs.Runs.{Follows, Begins}
-use Rattle.history.specs.Log.{Known, know, freshField, counts, activates, accepts, wipesAt, movedOn, modeSet, commanded, knownAfter, eventsOf, rules, fresh}
+use Rattle.history.specs.Log.{Known, know, freshField, activates, accepts, wipesAt, movedOn, modeSet, commanded, knownAfter, eventsOf, rules, fresh}
 use Rattle.history.specs.Run.{next}
 
 -- what is known of a state

@@ -1,10 +1,10 @@
 -- Cases as tables: a configuration, operations in the order of time, one operation more, what is looked at after it and what
 -- is found (01, Bench checks marked P, in their order; then a row for each rule that the log's reading shares with the device
 -- and no P row touches).
-use mathlib.Core.Bool.{Bool, true, false}
+use mathlib.Core.Bool.{true}
 use mathlib.Core.List.{List, [], _∷_, _++_}
 use Prim.Native.Nat.{ℕ}
-use lib.ListN.{length, getD}
+use lib.ListN.{length}
 use Rattle.words.specs.Pick.{pick}
 use Rattle.words.specs.Bytes.{bytesOf}
 use Rattle.virtq.specs.Fields.{fieldsOf}

@@ -5,11 +5,10 @@
 //! What single registers show and do: the functions of mmio_v2.rs that its `read` and `write` call, on the state by value.
 
 ghost use mathlib.Core.Path.{_≡_};
-ghost use mathlib.Core.Bool.{Bool, true, false};
-ghost use mathlib.Core.List.{List, [], _∷_};
-ghost use Prim.Native.Nat.{ℕ, _≤_};
+ghost use mathlib.Core.Bool.{true, false};
+ghost use mathlib.Core.List.{[], _∷_};
+ghost use Prim.Native.Nat.{_≤_};
 ghost use lib.ListN.{length};
-ghost use Rattle.words.specs.Pick.{pick};
 ghost use Rattle.tape.specs.Actions.{act};
 ghost use Rattle.tape.specs.Play.{laid};
 ghost use Rattle.mmio_state.specs.State.{withHot};

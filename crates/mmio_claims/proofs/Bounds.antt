@@ -1,17 +1,16 @@
 -- Refused exactly below 320 words; the count is the number of records; at most 64 of them; reads change no state.
 use mathlib.Core.Bool.{Bool, true, false}
-use mathlib.Core.Path.{_≡_, refl, sym, ap, _∙_}
-use mathlib.Core.List.{List, [], _∷_}
-use Prim.Native.Nat.{ℕ, _*_, _<_, _≤_, min}
+use mathlib.Core.Path.{_≡_, refl}
+use mathlib.Core.List.{[], _∷_}
+use Prim.Native.Nat.{ℕ, _*_, _<_, _≤_}
 use native.Mathlib.Omega.{arith}
 use borrow.Author.Tests.{lt-ltb, le-ltb}
-use lib.Dec.{eqb, leb, ltb}
+use lib.Dec.{ltb}
 use lib.ListN.{length}
 use Rattle.words.specs.Pick.{pick}
 use Rattle.words.specs.Actions.{wordsOfAll}
 use Rattle.words.specs.declared.Action.{Action}
 use Rattle.words.proofs.Actions.{length-all}
-use Rattle.activation.specs.Bound.{most}
 use Rattle.registers.specs.Registers.{readAt, writeAt}
 use Rattle.registers.specs.declared.ReadRegister.{ReadRegister}
 use Rattle.registers.specs.declared.ReadRegister.the-variants as R
@@ -22,12 +21,11 @@ use Rattle.mmio_hot.specs.declared.Csr.{Csr}
 use Rattle.mmio_hot.specs.declared.Csr.the-variants.{Locked, Stay, Turn}
 use Rattle.mmio_hot.specs.declared.Command.{Command}
 use Rattle.mmio_hot.specs.declared.Command.the-variants.{Update, Mask, Unmask, Other}
-use Rattle.mmio_state.specs.State.{State, queuesIn}
-use Rattle.mmio_state.specs.Effect.{Effect}
+use Rattle.mmio_state.specs.State.{State}
 use Rattle.mmio_state.proofs.Keeping.{activate-most, reset-most}
-use Rattle.mmio_msi.specs.Messages.{controlled, enabling, asksUpdate, asksMask, commanded, commanding}
+use Rattle.mmio_msi.specs.Messages.{controlled, asksUpdate, asksMask, commanded}
 use Rattle.mmio_ladder.specs.Ladder.{moveOf}
-use Rattle.mmio_ladder.specs.Climbing.{laddered, climbing}
+use Rattle.mmio_ladder.specs.Climbing.{laddered}
 use Rattle.mmio_ladder.specs.declared.Move.{Move}
 use Rattle.mmio_ladder.specs.declared.Move.the-variants as M
 use Rattle.mmio_access.specs.Gates.{acksOpen, configOpen}

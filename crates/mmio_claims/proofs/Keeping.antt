@@ -1,19 +1,17 @@
 -- A fresh device's state is real, and every operation keeps it so; what that says of the status.
 use mathlib.Core.Bool.{Bool, true, false, not, true≢false}
-use mathlib.Core.Path.{_≡_, refl, sym, ap, _∙_}
-use mathlib.Core.List.{List}
+use mathlib.Core.Path.{_≡_, refl, sym}
 use Prim.Native.Nat.{ℕ}
 use native.Mathlib.Omega.{arith}
 use lib.Dec.{eqb, ltb}
 use lib.ListN.{length}
 use Rattle.words.specs.Pick.{pick}
-use Rattle.registers.specs.Registers.{readAt, writeAt}
+use Rattle.registers.specs.Registers.{writeAt}
 use Rattle.registers.specs.declared.WriteRegister.{WriteRegister}
 use Rattle.registers.specs.declared.WriteRegister.the-variants as W
 use Rattle.virtq.specs.declared.Field.{Field}
 use Rattle.dragonball.specs.declared.Msi.{Msi}
 use Rattle.mmio_hot.specs.Commands.{csrOf, commandAt}
-use Rattle.mmio_hot.specs.Polled.{failed}
 use Rattle.mmio_hot.specs.declared.Csr.{Csr}
 use Rattle.mmio_hot.specs.declared.Csr.the-variants.{Locked, Stay, Turn}
 use Rattle.mmio_hot.specs.declared.Command.{Command}
@@ -29,7 +27,7 @@ use Rattle.mmio_state.proofs.Keeping.{field-keeps}
 use Rattle.mmio_msi.specs.Messages.{staged, turned, controlled, enabling, commanded, commanding}
 use Rattle.mmio_msi.proofs.Keeping.{stage-keeps, control-keeps, command-keeps}
 use Rattle.mmio_ladder.specs.Statuses.{among, statuses, topStatuses, Real}
-use Rattle.mmio_ladder.proofs.Keeping.{hot-keeps, same-real, failed-real, fails-real, climb-keeps}
+use Rattle.mmio_ladder.proofs.Keeping.{hot-keeps, same-real, fails-real, climb-keeps}
 use Rattle.mmio_access.specs.Gates.{fieldsOpen}
 use Rattle.mmio_access.specs.Changes.{fieldUpdated}
 use Rattle.mmio_v2.specs.Fresh.{refusal}

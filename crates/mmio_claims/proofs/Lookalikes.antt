@@ -1,11 +1,9 @@
 -- What shuts lookalikes out, on the step itself (01, "What separates a port from a lookalike"): it does not refuse everything,
 -- two replies differ, the status moves, and the count is the number of records (`count-is`, `words-are`).
-use mathlib.Core.Bool.{Bool, true}
 use mathlib.Core.Path.{_≡_, refl, ap}
 use mathlib.Core.List.{List, [], _∷_}
 use Prim.Native.Nat.{ℕ}
 use native.Mathlib.Omega.{arith}
-use lib.Dec.{eqb}
 use lib.ListN.{getD}
 use Rattle.words.specs.Bytes.{readLe}
 use Rattle.mmio_state.specs.State.{State}

@@ -1,9 +1,9 @@
 -- THE CLAIM on writes: at every offset and length, on every real state, the write does what the standard's meaning of the
 -- register does, but where `writeParts` says otherwise; and what an accepted reset has of the standard's.
-use mathlib.Core.Bool.{Bool, true, false, not, _&&_, true≢false}
+use mathlib.Core.Bool.{Bool, true, false, _&&_, true≢false}
 use mathlib.Core.Path.{_≡_, refl, sym, ap, fun-ext, _∙_}
 use mathlib.Core.List.{List, [], _∷_}
-use Prim.Native.Nat.{ℕ, zero, suc, _%_, _^_, _<_, min}
+use Prim.Native.Nat.{ℕ, zero, suc, _%_, _^_, _<_}
 use native.Mathlib.Omega.{arith}
 use borrow.Author.Tests.{eqb-true, eqb-false, ltb-true, not-true, not-false}
 use lib.Bits.{bitOr, or-self}
@@ -14,7 +14,6 @@ use Rattle.words.specs.Pick.{pick}
 use Rattle.words.specs.Bytes.{readLe}
 use Rattle.words.specs.declared.Action.{Action}
 use Rattle.virtq.specs.Fields.{fit, put, noQueue}
-use Rattle.virtq.specs.Valid.{address}
 use Rattle.virtq.specs.declared.Queue.{Queue}
 use Rattle.virtq.specs.declared.Field.{Field}
 use Rattle.virtq.specs.declared.Field.the-variants as F

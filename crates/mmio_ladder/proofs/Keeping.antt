@@ -14,12 +14,12 @@ use Rattle.registers.specs.Virtio12 as std
 use Rattle.mmio_hot.specs.Polled.{failed}
 use Rattle.mmio_hot.specs.declared.Hot.{Hot}
 use Rattle.mmio_state.specs.State.{State, withHot, failedState}
-use Rattle.mmio_state.specs.Activation.{wiped, activating, stopping, resetting}
+use Rattle.mmio_state.specs.Activation.{wiped, activating, stopping}
 use Rattle.mmio_state.specs.Effect.{Effect}
 use Rattle.mmio_state.specs.Sound.{Sound}
 use Rattle.mmio_state.proofs.Keeping.{activate-keeps, reset-keeps, failed-keeps}
-use Rattle.mmio_ladder.specs.Ladder.{from, downMove, otherMove, moveOf, statusAfter}
-use Rattle.mmio_ladder.specs.Climbing.{statusSet, marking, laddered, climbing}
+use Rattle.mmio_ladder.specs.Ladder.{from, downMove, otherMove, moveOf}
+use Rattle.mmio_ladder.specs.Climbing.{statusSet, laddered, climbing}
 use Rattle.mmio_ladder.specs.Statuses.{among, statuses, topStatuses, Real}
 use Rattle.mmio_ladder.specs.declared.Move.{Move}
 use Rattle.mmio_ladder.specs.declared.Move.the-variants.{Take, Start, Reset, Stay, Fail}

@@ -1,11 +1,11 @@
 -- A reply's bytes over the front of the lent ones, and a read's records.
-use mathlib.Core.Bool.{Bool, true, false, _&&_, _||_}
+use mathlib.Core.Bool.{Bool, true, false}
 use mathlib.Core.Path.{_≡_, refl, sym, ap, ap₂, _∙_}
 use mathlib.Core.List.{List, [], _∷_}
 use Prim.Native.Nat.{ℕ, _+_, _-_, _*_, _/_, _%_, _≤_, _<_}
 use native.Mathlib.Omega.{arith}
 use borrow.Author.Tests.{eqb-true, le-leb, lt-leb}
-use lib.Dec.{eqb, leb}
+use lib.Dec.{eqb}
 use lib.ListN.{length}
 use lib.Seq.{sets}
 use Rattle.words.specs.Pick.{pick}
@@ -13,7 +13,7 @@ use Rattle.words.specs.Bytes.{bytesOf, writeLe}
 use Rattle.tape.specs.Play.{laid}
 use Rattle.registers.specs.Registers.{readAt}
 use Rattle.mmio_state.specs.State.{State}
-use Rattle.mmio_state.specs.Effect.{done, written, ended}
+use Rattle.mmio_state.specs.Effect.{done, written}
 use Rattle.mmio_state.specs.declared.Done.{Done}
 use Rattle.mmio_state.proofs.Cases.{room-ended}
 use Rattle.mmio_access.specs.Changes.{configRead}

@@ -1,7 +1,7 @@
 -- THE LAW: after any log, each field of each queue of a device that follows the rules is what is read afresh from the log,
 -- and so is what is known.
 use mathlib.Core.Path.{_≡_, refl, sym, ap, ap₂, fun-ext, _∙_}
-use mathlib.Core.List.{List, [], _∷_, _++_}
+use mathlib.Core.List.{List, [], _∷_}
 use Prim.Native.Nat.{ℕ, _≤_}
 use lib.ListN.{length}
 use Rattle.virtq.specs.Fields.{fieldsOf}

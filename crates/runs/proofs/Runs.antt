@@ -1,6 +1,6 @@
 -- What holds of every run: an operation that leaves the state as it was can be struck; what a step keeps, a run keeps; the
 -- answers to the earlier part of a log don't depend on the later part.
-use mathlib.Core.Path.{_≡_, refl, ap, ap₂, _∙_}
+use mathlib.Core.Path.{_≡_, refl, ap, ap₂}
 use mathlib.Core.List.{List, [], _∷_, _++_, append-nil}
 use Rattle.runs.specs.Runs.{runFrom, answersTo}
 
