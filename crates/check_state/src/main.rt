@@ -6,31 +6,14 @@ use mmio_config::Region;
 use mmio_state::Done;
 use mmio_state::MmioV2DeviceState;
 use mmio_tables::Kind;
+use show::dec;
+use show::flag;
+use show::hex;
+use show::records;
+use show::say;
 use virtq::Field;
 use virtq::Queue;
 use virtq::QueueIndex;
-
-fn say(label: &[u8]) {
-    io::write_all(1, label);
-}
-
-fn dec(n: u64) {
-    say(b" ");
-    io::print_decimal(1, n);
-}
-
-fn hex(n: u64) {
-    say(b" ");
-    io::print_hex(1, n, 1);
-}
-
-fn flag(b: bool) {
-    if b {
-        say(b" yes");
-    } else {
-        say(b" no");
-    }
-}
 
 // Some data queues of 256 with a doorbell, four vectors, no regions, memory up to 0x10000.
 fn configuration(dataqueues: u32, control: u32) -> Configuration {
@@ -77,27 +60,6 @@ fn laid_out(dataqueues: u32) -> MmioV2DeviceState {
     let mut s = fresh(dataqueues, 0);
     s.queues = queues;
     s
-}
-
-fn record(words: &[u64], at: usize) {
-    if at < words.len() {
-        if 4 < words.len() - at {
-            say(b"\n ");
-            hex(words[at]);
-            hex(words[at + 1]);
-            hex(words[at + 2]);
-            hex(words[at + 3]);
-            hex(words[at + 4]);
-        }
-    }
-}
-
-fn records(words: &[u64], count: usize) {
-    for i in 0..64 {
-        if i < count {
-            record(words, 5 * i);
-        }
-    }
 }
 
 fn stands(s: MmioV2DeviceState, q: u32) {
