@@ -52,3 +52,93 @@ pub fn records(words: &[u64], count: usize) {
         }
     }
 }
+
+/// Four numbers in hex.
+pub fn four(a: u64, b: u64, c: u64, d: u64) {
+    hex(a);
+    hex(b);
+    hex(c);
+    hex(d);
+}
+
+fn wide(x: u8) -> u64 {
+    x as u64
+}
+
+/// So many bytes, two digits to each, or a stroke for none.
+pub fn bytes(b: &[u8], n: usize) {
+    say(b" ");
+    if n == 0 {
+        say(b"-");
+    }
+    for i in 0..8 {
+        if i < n {
+            if i < b.len() {
+                two(wide(b[i]));
+            }
+        }
+    }
+}
+
+/// What lent action words are full of.
+pub const UNTOUCHED: u64 = 0xe;
+
+fn same_bytes(before: &[u8], after: &[u8], reply: usize) -> bool {
+    for i in 0..8 {
+        if reply <= i {
+            if i < before.len() {
+                if i < after.len() {
+                    if before[i] != after[i] {
+                        return false;
+                    }
+                }
+            }
+        }
+    }
+    true
+}
+
+fn same_words(words: &[u64], count: usize) -> bool {
+    for i in 0..320 {
+        if count <= i / 5 {
+            if i < words.len() {
+                if words[i] != UNTOUCHED {
+                    return false;
+                }
+            }
+        }
+    }
+    true
+}
+
+fn refused(n: u32, kept: bool) {
+    if n != 0 {
+        say(b" refused");
+        dec(n as u64);
+        if kept {
+            say(b" kept");
+        }
+    }
+    if !kept {
+        say(b" touched");
+    }
+}
+
+/// An answer: reply bytes, the number of records, a refusal if there is one, and the records. `touched` says that lent bytes
+/// past the reply or lent words past the last record are not as they were, and `kept` that a refusal left them all.
+pub fn answer(
+    refusal: u32,
+    before: &[u8],
+    after: &[u8],
+    reply: usize,
+    words: &[u64],
+    count: usize,
+) {
+    bytes(after, reply);
+    dec(count as u64);
+    refused(
+        refusal,
+        same_bytes(before, after, reply) && same_words(words, count),
+    );
+    records(words, count);
+}

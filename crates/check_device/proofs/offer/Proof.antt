@@ -11,6 +11,9 @@ at-most-requires c κs = search needs
 at-most-requires-2 : tie.Need-at-most-requires-2
 at-most-requires-2 c κs = search needs
 
+low32-requires : tie.Need-low32-requires
+low32-requires c κs = search needs
+
 slice-relend-prefix-ask : tie.Need-slice-relend-prefix-ask
 slice-relend-prefix-ask c = search needs
 
@@ -41,6 +44,7 @@ offer-spec =
     (tie.spec
     at-most-requires
     at-most-requires-2
+    low32-requires
     slice-relend-prefix-ask
     slice-aggregate-ask
     slice-relend-prefix-ask-2

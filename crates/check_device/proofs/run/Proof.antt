@@ -6,10 +6,10 @@ use Rattle.check_device.proofs.run.Statement.{statement}
 use Rattle.check_device.proofs.run.Tie as tie
 
 abbrev Inv-loop : tie.InvT-loop
-Inv-loop text c₀ d₀ lent₀ number₀ at₀ t9 c d lent number at = at ≤ length text
+Inv-loop text c₀ d₀ l₀ i₀ c d l i = i ≤ length text
 
 abbrev μ-loop : tie.MeasureT-loop
-μ-loop text c₀ d₀ lent₀ number₀ at₀ t9 c d lent number at = length text - at
+μ-loop text c₀ d₀ l₀ i₀ c d l i = length text - i
 
 plain-requires : tie.Need-plain-requires Inv-loop μ-loop
 plain-requires c κs = search (needs, eq-eqb, ne-eqb, lt-ltb, le-ltb, le-leb, lt-leb)
@@ -17,26 +17,14 @@ plain-requires c κs = search (needs, eq-eqb, ne-eqb, lt-ltb, le-ltb, le-leb, lt
 new-requires : tie.Need-new-requires Inv-loop μ-loop
 new-requires c κs = search (needs, eq-eqb, ne-eqb, lt-ltb, le-ltb, le-leb, lt-leb)
 
+empty-requires : tie.Need-empty-requires Inv-loop μ-loop
+empty-requires c κs = search (needs, eq-eqb, ne-eqb, lt-ltb, le-ltb, le-leb, lt-leb)
+
 loop-holds : tie.Need-loop-holds Inv-loop μ-loop
 loop-holds c = search (needs, eq-eqb, ne-eqb, lt-ltb, le-ltb, le-leb, lt-leb)
 
-seek-requires : tie.Need-seek-requires Inv-loop μ-loop
-seek-requires c κs = search (needs, eq-eqb, ne-eqb, lt-ltb, le-ltb, le-leb, lt-leb)
-
-parse-requires : tie.Need-parse-requires Inv-loop μ-loop
-parse-requires c κs = search (needs, eq-eqb, ne-eqb, lt-ltb, le-ltb, le-leb, lt-leb)
-
-sub-head : tie.Need-sub-head Inv-loop μ-loop
-sub-head c = search (needs, eq-eqb, ne-eqb, lt-ltb, le-ltb, le-leb, lt-leb)
-
-part-head-start : tie.Need-part-head-start Inv-loop μ-loop
-part-head-start c = search (needs, eq-eqb, ne-eqb, lt-ltb, le-ltb, le-leb, lt-leb)
-
-part-head-end : tie.Need-part-head-end Inv-loop μ-loop
-part-head-end c = search (needs, eq-eqb, ne-eqb, lt-ltb, le-ltb, le-leb, lt-leb)
-
-head-requires : tie.Need-head-requires Inv-loop μ-loop
-head-requires c κs = search (needs, eq-eqb, ne-eqb, lt-ltb, le-ltb, le-leb, lt-leb)
+shared-slice-read-b : tie.Need-shared-slice-read-b Inv-loop μ-loop
+shared-slice-read-b c = search (needs, eq-eqb, ne-eqb, lt-ltb, le-ltb, le-leb, lt-leb)
 
 perform-requires : tie.Need-perform-requires Inv-loop μ-loop
 perform-requires c κs = search (needs, eq-eqb, ne-eqb, lt-ltb, le-ltb, le-leb, lt-leb)
@@ -44,20 +32,17 @@ perform-requires c κs = search (needs, eq-eqb, ne-eqb, lt-ltb, le-ltb, le-leb, 
 configure-requires : tie.Need-configure-requires Inv-loop μ-loop
 configure-requires c κs = search (needs, eq-eqb, ne-eqb, lt-ltb, le-ltb, le-leb, lt-leb)
 
-next-lent-requires : tie.Need-next-lent-requires Inv-loop μ-loop
-next-lent-requires c κs = search (needs, eq-eqb, ne-eqb, lt-ltb, le-ltb, le-leb, lt-leb)
+next-requires : tie.Need-next-requires Inv-loop μ-loop
+next-requires c κs = search (needs, eq-eqb, ne-eqb, lt-ltb, le-ltb, le-leb, lt-leb)
 
-next-number-requires : tie.Need-next-number-requires Inv-loop μ-loop
-next-number-requires c κs = search (needs, eq-eqb, ne-eqb, lt-ltb, le-ltb, le-leb, lt-leb)
+feed-requires : tie.Need-feed-requires Inv-loop μ-loop
+feed-requires c κs = search (needs, eq-eqb, ne-eqb, lt-ltb, le-ltb, le-leb, lt-leb)
 
-slice-aggregate-say : tie.Need-slice-aggregate-say Inv-loop μ-loop
-slice-aggregate-say c = search (needs, eq-eqb, ne-eqb, lt-ltb, le-ltb, le-leb, lt-leb)
+echo-requires : tie.Need-echo-requires Inv-loop μ-loop
+echo-requires c κs = search (needs, eq-eqb, ne-eqb, lt-ltb, le-ltb, le-leb, lt-leb)
 
-say-requires : tie.Need-say-requires Inv-loop μ-loop
-say-requires c κs = search (needs, eq-eqb, ne-eqb, lt-ltb, le-ltb, le-leb, lt-leb)
-
-past-requires : tie.Need-past-requires Inv-loop μ-loop
-past-requires c κs = search (needs, eq-eqb, ne-eqb, lt-ltb, le-ltb, le-leb, lt-leb)
+add-i : tie.Need-add-i Inv-loop μ-loop
+add-i c = search (needs, eq-eqb, ne-eqb, lt-ltb, le-ltb, le-leb, lt-leb)
 
 loop-less : tie.Need-loop-less Inv-loop μ-loop
 loop-less c = search (needs, eq-eqb, ne-eqb, lt-ltb, le-ltb, le-leb, lt-leb)
@@ -68,9 +53,6 @@ loop-again c = search (needs, eq-eqb, ne-eqb, lt-ltb, le-ltb, le-leb, lt-leb)
 returns : tie.Need-returns Inv-loop μ-loop
 returns c = search (needs, eq-eqb, ne-eqb, lt-ltb, le-ltb, le-leb, lt-leb)
 
-returns-2 : tie.Need-returns-2 Inv-loop μ-loop
-returns-2 c = search (needs, eq-eqb, ne-eqb, lt-ltb, le-ltb, le-leb, lt-leb)
-
 pub run-spec : {M : Type 1} → statement M
 run-spec =
     tie.close
@@ -79,21 +61,15 @@ run-spec =
     μ-loop
     plain-requires
     new-requires
+    empty-requires
     loop-holds
-    seek-requires
-    parse-requires
-    sub-head
-    part-head-start
-    part-head-end
-    head-requires
+    shared-slice-read-b
     perform-requires
     configure-requires
-    next-lent-requires
-    next-number-requires
-    slice-aggregate-say
-    say-requires
-    past-requires
+    next-requires
+    feed-requires
+    echo-requires
+    add-i
     loop-less
     loop-again
-    returns
-    returns-2)
+    returns)

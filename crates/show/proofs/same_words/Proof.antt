@@ -1,21 +1,23 @@
 use Prim.Native.Nat.{_-_, _≤_}
-use lib.ListN.{length}
 use borrow.Author.Needs.{needs}
 use borrow.Author.Tests.{eq-eqb, ne-eqb, lt-ltb, le-ltb, le-leb, lt-leb}
-use Rattle.check_device.proofs.kept_bytes.Statement.{statement}
-use Rattle.check_device.proofs.kept_bytes.Tie as tie
+use Rattle.show.proofs.same_words.Statement.{statement}
+use Rattle.show.proofs.same_words.Tie as tie
 
 abbrev Inv-loop : tie.InvT-loop
-Inv-loop bytes reply i₀ i = reply ≤ i
+Inv-loop words count i₀ i = i ≤ 320
 
 abbrev μ-loop : tie.MeasureT-loop
-μ-loop bytes reply i₀ i = length bytes - i
+μ-loop words count i₀ i = 320 - i
 
 loop-holds : tie.Need-loop-holds Inv-loop μ-loop
 loop-holds c = search (needs, eq-eqb, ne-eqb, lt-ltb, le-ltb, le-leb, lt-leb)
 
-shared-slice-read-if2 : tie.Need-shared-slice-read-if2 Inv-loop μ-loop
-shared-slice-read-if2 c = search (needs, eq-eqb, ne-eqb, lt-ltb, le-ltb, le-leb, lt-leb)
+mul-if3 : tie.Need-mul-if3 Inv-loop μ-loop
+mul-if3 c = search (needs, eq-eqb, ne-eqb, lt-ltb, le-ltb, le-leb, lt-leb)
+
+shared-slice-read-if3 : tie.Need-shared-slice-read-if3 Inv-loop μ-loop
+shared-slice-read-if3 c = search (needs, eq-eqb, ne-eqb, lt-ltb, le-ltb, le-leb, lt-leb)
 
 returns : tie.Need-returns Inv-loop μ-loop
 returns c = search (needs, eq-eqb, ne-eqb, lt-ltb, le-ltb, le-leb, lt-leb)
@@ -32,20 +34,17 @@ loop-again c = search (needs, eq-eqb, ne-eqb, lt-ltb, le-ltb, le-leb, lt-leb)
 returns-2 : tie.Need-returns-2 Inv-loop μ-loop
 returns-2 c = search (needs, eq-eqb, ne-eqb, lt-ltb, le-ltb, le-leb, lt-leb)
 
-returns-3 : tie.Need-returns-3 Inv-loop μ-loop
-returns-3 c = search (needs, eq-eqb, ne-eqb, lt-ltb, le-ltb, le-leb, lt-leb)
-
-pub kept-bytes-spec : {M : Type 1} → statement M
-kept-bytes-spec =
+pub same-words-spec : {M : Type 1} → statement M
+same-words-spec =
     tie.close
     (tie.spec
     Inv-loop
     μ-loop
     loop-holds
-    shared-slice-read-if2
+    mul-if3
+    shared-slice-read-if3
     returns
     add-i
     loop-less
     loop-again
-    returns-2
-    returns-3)
+    returns-2)

@@ -1,24 +1,23 @@
 use Prim.Native.Nat.{_-_, _≤_}
-use lib.ListN.{length}
 use borrow.Author.Needs.{needs}
 use borrow.Author.Tests.{eq-eqb, ne-eqb, lt-ltb, le-ltb, le-leb, lt-leb}
-use Rattle.check_device.proofs.kept_words.Statement.{statement}
-use Rattle.check_device.proofs.kept_words.Tie as tie
+use Rattle.show.proofs.same_bytes.Statement.{statement}
+use Rattle.show.proofs.same_bytes.Tie as tie
 
 abbrev Inv-loop : tie.InvT-loop
-Inv-loop words count i₀ i = i ≤ length words
+Inv-loop before after reply i₀ i = i ≤ 8
 
 abbrev μ-loop : tie.MeasureT-loop
-μ-loop words count i₀ i = length words - i
+μ-loop before after reply i₀ i = 8 - i
 
 loop-holds : tie.Need-loop-holds Inv-loop μ-loop
 loop-holds c = search (needs, eq-eqb, ne-eqb, lt-ltb, le-ltb, le-leb, lt-leb)
 
-mul-if2 : tie.Need-mul-if2 Inv-loop μ-loop
-mul-if2 c = search (needs, eq-eqb, ne-eqb, lt-ltb, le-ltb, le-leb, lt-leb)
+shared-slice-read-if4 : tie.Need-shared-slice-read-if4 Inv-loop μ-loop
+shared-slice-read-if4 c = search (needs, eq-eqb, ne-eqb, lt-ltb, le-ltb, le-leb, lt-leb)
 
-shared-slice-read-if2 : tie.Need-shared-slice-read-if2 Inv-loop μ-loop
-shared-slice-read-if2 c = search (needs, eq-eqb, ne-eqb, lt-ltb, le-ltb, le-leb, lt-leb)
+shared-slice-read-if4-2 : tie.Need-shared-slice-read-if4-2 Inv-loop μ-loop
+shared-slice-read-if4-2 c = search (needs, eq-eqb, ne-eqb, lt-ltb, le-ltb, le-leb, lt-leb)
 
 returns : tie.Need-returns Inv-loop μ-loop
 returns c = search (needs, eq-eqb, ne-eqb, lt-ltb, le-ltb, le-leb, lt-leb)
@@ -35,15 +34,15 @@ loop-again c = search (needs, eq-eqb, ne-eqb, lt-ltb, le-ltb, le-leb, lt-leb)
 returns-2 : tie.Need-returns-2 Inv-loop μ-loop
 returns-2 c = search (needs, eq-eqb, ne-eqb, lt-ltb, le-ltb, le-leb, lt-leb)
 
-pub kept-words-spec : {M : Type 1} → statement M
-kept-words-spec =
+pub same-bytes-spec : {M : Type 1} → statement M
+same-bytes-spec =
     tie.close
     (tie.spec
     Inv-loop
     μ-loop
     loop-holds
-    mul-if2
-    shared-slice-read-if2
+    shared-slice-read-if4
+    shared-slice-read-if4-2
     returns
     add-i
     loop-less

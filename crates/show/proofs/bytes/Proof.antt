@@ -1,15 +1,14 @@
 use Prim.Native.Nat.{_-_, _≤_}
-use lib.ListN.{length}
 use borrow.Author.Needs.{needs}
 use borrow.Author.Tests.{eq-eqb, ne-eqb, lt-ltb, le-ltb, le-leb, lt-leb}
-use Rattle.check_device.proofs.reply.Statement.{statement}
-use Rattle.check_device.proofs.reply.Tie as tie
+use Rattle.show.proofs.bytes.Statement.{statement}
+use Rattle.show.proofs.bytes.Tie as tie
 
 abbrev Inv-loop : tie.InvT-loop
-Inv-loop bytes n i₀ i = i ≤ length bytes
+Inv-loop b n i₀ i = i ≤ 8
 
 abbrev μ-loop : tie.MeasureT-loop
-μ-loop bytes n i₀ i = length bytes - i
+μ-loop b n i₀ i = 8 - i
 
 slice-aggregate-say : tie.Need-slice-aggregate-say Inv-loop μ-loop
 slice-aggregate-say c = search (needs, eq-eqb, ne-eqb, lt-ltb, le-ltb, le-leb, lt-leb)
@@ -47,8 +46,8 @@ loop-again c = search (needs, eq-eqb, ne-eqb, lt-ltb, le-ltb, le-leb, lt-leb)
 returns : tie.Need-returns Inv-loop μ-loop
 returns c = search (needs, eq-eqb, ne-eqb, lt-ltb, le-ltb, le-leb, lt-leb)
 
-pub reply-spec : {M : Type 1} → statement M
-reply-spec =
+pub bytes-spec : {M : Type 1} → statement M
+bytes-spec =
     tie.close
     (tie.spec
     Inv-loop
