@@ -245,9 +245,15 @@ fn operate(d: MmioV2Device, l: Line) -> MmioV2Device {
     let mut bytes = filled(l);
     let a = offer(d, l, &mut bytes, &mut words);
     let u = a.device;
-    say(b" ");
-    show::two(u.driver_status() as u64);
-    show::answer(a.refusal, &filled(l), &bytes, a.reply, &words, a.count);
+    show::answer(
+        u.driver_status(),
+        a.refusal,
+        &filled(l),
+        &bytes,
+        a.reply,
+        &words,
+        a.count,
+    );
     u
 }
 

@@ -17,8 +17,8 @@ pub fn hex(n: u64) {
     io::print_hex(1, n, 1);
 }
 
-/// Two digits of hex, with no space before them.
-pub fn two(n: u64) {
+// Two digits of hex, with no space before them.
+fn two(n: u64) {
     io::print_hex(1, n, 2);
 }
 
@@ -124,9 +124,10 @@ fn refused(n: u32, kept: bool) {
     }
 }
 
-/// An answer: reply bytes, the number of records, a refusal if there is one, and the records. `touched` says that lent bytes
+/// An answer: the status, reply bytes, the number of records, a refusal if there is one, and the records. `touched` says that lent bytes
 /// past the reply or lent words past the last record are not as they were, and `kept` that a refusal left them all.
 pub fn answer(
+    status: u32,
     refusal: u32,
     before: &[u8],
     after: &[u8],
@@ -134,6 +135,8 @@ pub fn answer(
     words: &[u64],
     count: usize,
 ) {
+    say(b" ");
+    two(status as u64);
     bytes(after, reply);
     dec(count as u64);
     refused(
