@@ -98,15 +98,20 @@ fn same_bytes(before: &[u8], after: &[u8], reply: usize) -> bool {
     true
 }
 
+fn past(count: usize) -> usize {
+    if count < 64 {
+        return 5 * count;
+    }
+    320
+}
+
 fn same_words(words: &[u64], count: usize) -> bool {
-    for i in 0..320 {
-        if count <= i / 5 {
-            if i < words.len() {
-                if words[i] != UNTOUCHED {
-                    return false;
-                }
-            }
+    let mut i = past(count);
+    while i < words.len() {
+        if words[i] != UNTOUCHED {
+            return false;
         }
+        i += 1;
     }
     true
 }
