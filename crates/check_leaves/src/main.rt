@@ -5,34 +5,16 @@ use dragonball::DoorBell;
 use dragonball::Msi;
 use registers::ReadRegister;
 use registers::WriteRegister;
+use show::dec;
+use show::flag;
+use show::hex;
+use show::say;
 use virtq::Field;
 use virtq::Memory;
 use virtq::Queue;
 use virtq::QueueIndex;
 use virtq::Scan;
 use words::Action;
-
-fn say(label: &[u8]) {
-    io::write_all(1, label);
-}
-
-fn dec(n: u64) {
-    say(b" ");
-    io::print_decimal(1, n);
-}
-
-fn hex(n: u64) {
-    say(b" ");
-    io::print_hex(1, n, 1);
-}
-
-fn flag(b: bool) {
-    if b {
-        say(b" yes");
-    } else {
-        say(b" no");
-    }
-}
 
 fn size(max: u16, v: u32) {
     let q = Queue::fresh(max).update(max, Field::Size, v);

@@ -6,31 +6,14 @@ use mmio_config::Region;
 use mmio_state::Done;
 use mmio_state::MmioV2DeviceState;
 use mmio_tables::Kind;
+use show::dec;
+use show::flag;
+use show::hex;
+use show::records;
+use show::say;
 use virtq::Field;
 use virtq::Queue;
 use virtq::QueueIndex;
-
-fn say(label: &[u8]) {
-    io::write_all(1, label);
-}
-
-fn dec(n: u64) {
-    say(b" ");
-    io::print_decimal(1, n);
-}
-
-fn hex(n: u64) {
-    say(b" ");
-    io::print_hex(1, n, 1);
-}
-
-fn flag(b: bool) {
-    if b {
-        say(b" yes");
-    } else {
-        say(b" no");
-    }
-}
 
 // Some data queues of 256 with a doorbell, four vectors, no regions, memory up to 0x10000.
 fn configuration(dataqueues: u32, control: u32) -> Configuration {
@@ -79,27 +62,6 @@ fn laid_out(dataqueues: u32) -> MmioV2DeviceState {
     s
 }
 
-fn record(words: &[u64], at: usize) {
-    if at < words.len() {
-        if 4 < words.len() - at {
-            say(b"\n ");
-            hex(words[at]);
-            hex(words[at + 1]);
-            hex(words[at + 2]);
-            hex(words[at + 3]);
-            hex(words[at + 4]);
-        }
-    }
-}
-
-fn records(words: &[u64], count: usize) {
-    for i in 0..64 {
-        if i < count {
-            record(words, 5 * i);
-        }
-    }
-}
-
 fn stands(s: MmioV2DeviceState, q: u32) {
     flag(s.held_entry(QueueIndex(q), Kind::Doorbell).stands);
     flag(s.held_entry(QueueIndex(q), Kind::Notify).stands);
@@ -124,68 +86,6 @@ fn start(label: &[u8], s: MmioV2DeviceState, k: u32) {
     let d = s.activate(k, &mut words);
     records(&words, d.count);
     outcome(d);
-}
-
-// A started device of two queues, reset with k answers.
-fn stop(label: &[u8], k: u32) {
-    say(label);
-    let mut words = [0xeu64; 320];
-    let d = laid_out(2).activate(9, &mut words);
-    let s = d.state;
-    let r = s.reset(k, &mut words);
-    records(&words, r.count);
-    outcome(r);
-}
-
-fn refusal(label: &[u8], c: Configuration) {
-    say(label);
-    dec(MmioV2DeviceState::new(c).refusal as u64);
-}
-
-fn refusals() {
-    let c = configuration(2, 0);
-    refusal(b"\nrefusal of two queues:", c);
-    refusal(b"\nof sixteen:", configuration(16, 0));
-    refusal(b"\nof sixteen and a control queue:", configuration(16, 256));
-    refusal(b"\nof a control queue alone:", configuration(0, 256));
-    refusal(b"\nof none:", configuration(0, 0));
-    refusal(b"\nof a control queue of 300:", configuration(2, 300));
-    refusal(b"\nof a control queue of 65,536:", configuration(2, 65536));
-}
-
-fn limits() {
-    let mut c = configuration(2, 0);
-    c.base = 0xffff_ffff_ffff_e000;
-    refusal(b"\nof the highest base:", c);
-    c.base = 0xffff_ffff_ffff_e001;
-    refusal(b"\nof one above:", c);
-    c.base = 0;
-    c.vectors = 32;
-    refusal(b"\nof 32 vectors:", c);
-    c.vectors = 33;
-    refusal(b"\nof 33:", c);
-    c.vectors = 0;
-    c.regions = 8;
-    refusal(b"\nof 8 regions:", c);
-    c.regions = 9;
-    refusal(b"\nof 9:", c);
-}
-
-fn question(s: MmioV2DeviceState, q: u32) {
-    let r = s.field(QueueIndex(q), Field::DescLow);
-    dec(r.refusal as u64);
-    hex(r.value as u64);
-    let e = s.held_entry(QueueIndex(q), Kind::Notify);
-    dec(e.refusal as u64);
-    hex(e.entry.address);
-}
-
-fn questions() {
-    let s = laid_out(2);
-    say(b"\nqueue 1, descriptor and notify; queue 2; queue 2^32 - 1:");
-    question(s, 1);
-    question(s, 2);
-    question(s, 0xffff_ffff);
 }
 
 fn short_space() {
@@ -218,16 +118,6 @@ fn messaging(s: MmioV2DeviceState) -> MmioV2DeviceState {
     let d = mmio_msi::update_msi_enable(s, 0x8000, 1, &mut words);
     hex(words[1]);
     mmio_msi::set_msi_data(d.state, 7)
-}
-
-fn idle_commands() {
-    say(b"\nMSI on: mode asked; records, kind, index, status of 0x1002, 0x1003, 0x0001:");
-    let on = messaging(laid_out(2));
-    command(on, 0x1002, 9);
-    command(on, 0x1003, 9);
-    command(on, 0x0001, 9);
-    say(b"\nMSI off, 0x1002:");
-    command(laid_out(2), 0x1002, 9);
 }
 
 fn running_commands() {
@@ -283,43 +173,6 @@ fn modes() {
     stored(alone, 0x1001, 1);
 }
 
-fn selected(s: MmioV2DeviceState, q: u32) {
-    let hot = s.hot;
-    let mut u = s;
-    u.hot = hot.set_queue_select(q);
-    dec(u.queue_max() as u64);
-    dec(u.queue_ready() as u64);
-}
-
-fn selectors() {
-    say(b"\nmaximum and ready of queue 0, the control queue 2, 3, 0x10000:");
-    let mut s = fresh(2, 512);
-    s = s.with_queue_mut(Field::Ready, 1);
-    selected(s, 0);
-    selected(s, 2);
-    selected(s, 3);
-    selected(s, 0x10000);
-}
-
-fn features(s: MmioV2DeviceState, page: u32) {
-    let mut words = [0xeu64; 320];
-    let hot = s.hot;
-    let mut u = s;
-    u.hot = hot.set_features_select(page)
-        .set_acked_features_select(page);
-    hex(u.get_avail_features() as u64);
-    let d = u.set_acked_features(9, &mut words);
-    records(&words, d.count);
-}
-
-fn pages() {
-    say(b"\nfeatures of page 0, 1, 5, and 9 acknowledged there:");
-    let s = fresh(2, 0);
-    features(s, 0);
-    features(s, 1);
-    features(s, 5);
-}
-
 fn main() {
     say(b"the whole case: two queues, k = 3");
     start(b"", laid_out(2), 3);
@@ -328,25 +181,14 @@ fn main() {
         laid_out(2),
         2,
     );
-    start(b"\ntwo queues, k = 4: interrupts refused", laid_out(2), 4);
-    start(b"\ntwo queues, k = 6: started", laid_out(2), 6);
     start(
         b"\nthree queues, k = 1: the first notify refused",
         laid_out(3),
         1,
     );
-    start(b"\nno queue ready, k = 9", fresh(2, 0), 9);
-    stop(b"\nreset accepted", 1);
-    stop(b"\nreset refused", 0);
-    refusals();
-    limits();
-    questions();
     short_space();
-    idle_commands();
     running_commands();
     modes();
-    selectors();
-    pages();
     start(b"\nsixteen queues, k = 31", laid_out(16), 31);
     say(b"\n");
 }

@@ -1,8 +1,8 @@
 use Prim.Native.Nat.{_-_, _≤_}
 use borrow.Author.Needs.{needs}
 use borrow.Author.Tests.{eq-eqb, ne-eqb, lt-ltb, le-ltb, le-leb, lt-leb}
-use Rattle.check_state.proofs.records.Statement.{statement}
-use Rattle.check_state.proofs.records.Tie as tie
+use Rattle.show.proofs.records.Statement.{statement}
+use Rattle.show.proofs.records.Tie as tie
 
 abbrev Inv-loop : tie.InvT-loop
 Inv-loop words count i₀ i = i ≤ 64
