@@ -10,8 +10,6 @@ use lib.Dec.{leb}
 use lib.ListN.{length, take, getD}
 use lib.Seq.{take-suc}
 use Rattle.words.specs.Pick.{pick}
-use Rattle.words.specs.Actions.{Emitted}
-use Rattle.words.proofs.Actions.{still, worded}
 use Rattle.text.specs.Numerals.{pair, pairs}
 use Rattle.text.specs.Lines.{replyText}
 use Rattle.text.specs.Room.{room, recordRoom}
@@ -74,10 +72,3 @@ record-room-means k len at h = go (leb k 8) refl h
     go : (t : Bool) → leb k 8 ≡ t → pick t (room 64 len at) false ≡ true → (k ≤ 8) × (at + 64 ≤ len)
     go true e q = (leb-true k 8 e, room-means 64 len at q)
     go false e q = absurd (true≢false (sym q))
-
--- a line is written where there is room, and nothing where there is none
-pub written : {l l′ : List ℕ} {at r : ℕ} {w : List ℕ} (b : Bool) → b ≡ true → Emitted l at w l′ r → Emitted l at (pick b w []) l′ r
-written b q e = rw q e
-
-pub kept : (l : List ℕ) (at : ℕ) (w : List ℕ) (b : Bool) → b ≡ false → Emitted l at (pick b w []) l at
-kept l at w b q = rw q (still l at)

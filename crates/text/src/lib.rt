@@ -131,6 +131,14 @@ fn next_pair(out: &mut [u8], at: usize, v: u64) -> usize
     put_pair(out, a, v)
 }
 
+// A byte of a reply. A parameter carries its own range, so the wider number needs no bound.
+fn put_byte(out: &mut [u8], at: usize, v: u8) -> usize
+    requires { ⌜ at + 2 ≤ length (now out) ⌝ }
+    ensures { λ r. ⌜ Emitted (now (out .entry)) at (pair v) (now (out .exit)) r ⌝ }
+{
+    put_pair(out, at, v as u64)
+}
+
 fn put_pairs(out: &mut [u8], at: usize, s: &[u8]) -> usize
     requires { ⌜ (length (now s) ≤ 8) × (at + 16 ≤ length (now out)) ⌝ }
     ensures { λ r. ⌜ Emitted (now (out .entry)) at (pairs (now (s .entry))) (now (out .exit)) r ⌝ }
@@ -139,7 +147,7 @@ fn put_pairs(out: &mut [u8], at: usize, s: &[u8]) -> usize
     let mut p = at;
     let mut j = 0;
     while j < s.len() {
-        p = put_pair(out, p, s[j] as u64);
+        p = put_byte(out, p, s[j]);
         j += 1;
     }
     p

@@ -21,11 +21,11 @@ loop-holds : tie.Need-loop-holds Inv-loop μ-loop
 unfolding pairs
 loop-holds c = (still _ _, refl, omega arith, omega arith)
 
-shared-slice-read-put-pair : tie.Need-shared-slice-read-put-pair Inv-loop μ-loop
-shared-slice-read-put-pair c = search needs
+shared-slice-read-put-byte : tie.Need-shared-slice-read-put-byte Inv-loop μ-loop
+shared-slice-read-put-byte c = search needs
 
-put-pair-requires : tie.Need-put-pair-requires Inv-loop μ-loop
-put-pair-requires c κs = search needs
+put-byte-requires : tie.Need-put-byte-requires Inv-loop μ-loop
+put-byte-requires c κs = search needs
 
 add-j : tie.Need-add-j Inv-loop μ-loop
 add-j c = search needs
@@ -36,7 +36,7 @@ loop-less c = search needs
 loop-again : tie.Need-loop-again Inv-loop μ-loop
 loop-again c = let l = c .before .before .before .before .before .before .loop in
     let t = c .before .before .before .before .before .loop-test .taken in
-    let e = c .before .before .put-pair .ensures in
+    let e = c .before .before .put-byte .ensures in
     (worded (then (l .inv .0) e) (pairs-more _ _ t), long e ∙ l .inv .1, omega (arith, t), omega (arith, e .moved, l .inv .3))
 
 same-length : tie.Need-same-length Inv-loop μ-loop
@@ -53,8 +53,8 @@ put-pairs-spec =
     Inv-loop
     μ-loop
     loop-holds
-    shared-slice-read-put-pair
-    put-pair-requires
+    shared-slice-read-put-byte
+    put-byte-requires
     add-j
     loop-less
     loop-again
