@@ -214,7 +214,16 @@ fn put_queue(out: &mut [u8], at: usize, index: u64) -> usize
     next_decimal(out, a, index)
 }
 
-fn put_fields(out: &mut [u8], at: usize, index: u64, size: u64, ready: u64, desc: u64, avail: u64, used: u64) -> usize
+fn put_fields(
+    out: &mut [u8],
+    at: usize,
+    index: u64,
+    size: u64,
+    ready: u64,
+    desc: u64,
+    avail: u64,
+    used: u64,
+) -> usize
     requires { ⌜ at + 128 ≤ length (now out) ⌝ }
     ensures { λ r. ⌜ Emitted (now (out .entry)) at (fieldLine index size ready desc avail used) (now (out .exit)) r ⌝ }
     ensures { λ r. ⌜ r ≤ at + 128 ⌝ }
@@ -261,7 +270,14 @@ pub fn heading(out: &mut [u8], at: usize) -> usize
 
 /// A record's line: its number, the two low digits of the status, the reply, and how many actions there were. A reply of more
 /// than 8 bytes counts as no room.
-pub fn line(out: &mut [u8], at: usize, number: u32, status: u32, reply: &[u8], count: usize) -> usize
+pub fn line(
+    out: &mut [u8],
+    at: usize,
+    number: u32,
+    status: u32,
+    reply: &[u8],
+    count: usize,
+) -> usize
     ensures { λ r. ⌜ Emitted (now (out .entry)) at (pick (recordRoom (length (now (reply .entry))) (length (now (out .entry))) at) (recordLine number status (now (reply .entry)) count) []) (now (out .exit)) r ⌝ }
     ensures { λ r. ⌜ r ≤ at + 64 ⌝ }
 {
@@ -305,12 +321,30 @@ pub fn action_line(out: &mut [u8], at: usize, x: Action) -> usize
 }
 
 /// The line of a queue's fields.
-pub fn field_line(out: &mut [u8], at: usize, index: u32, size: u32, ready: u32, desc: u64, avail: u64, used: u64) -> usize
+pub fn field_line(
+    out: &mut [u8],
+    at: usize,
+    index: u32,
+    size: u32,
+    ready: u32,
+    desc: u64,
+    avail: u64,
+    used: u64,
+) -> usize
     ensures { λ r. ⌜ Emitted (now (out .entry)) at (pick (room 128 (length (now (out .entry))) at) (fieldLine index size ready desc avail used) []) (now (out .exit)) r ⌝ }
     ensures { λ r. ⌜ r ≤ at + 128 ⌝ }
 {
     if has_room(DETAIL_ROOM, out.len(), at) {
-        return put_fields(out, at, index as u64, size as u64, ready as u64, desc, avail, used);
+        return put_fields(
+            out,
+            at,
+            index as u64,
+            size as u64,
+            ready as u64,
+            desc,
+            avail,
+            used,
+        );
     }
     at
 }

@@ -18,9 +18,9 @@ same-length c = search needs
 
 returns : tie.Need-returns
 returns c = (
-      then (then (c .before .before .before .before .before .before .before .before .before .before .put-bytes .ensures) (c .before .before .before .before .before .before .next-decimal .ensures .0)) (c .before .before .put .ensures),
-      omega (arith, c .before .before .before .before .before .before .before .before .before .before .before .before .before .before .pre .0, c .before .before .before .before .before .before .before .before .before .before .put-bytes .ensures .moved, c .before .before .before .before .before .before .next-decimal .ensures .1, c .before .before .put .ensures .moved),
-    )
+  then (then (c .before .before .before .before .before .before .before .before .before .before .put-bytes .ensures) (c .before .before .before .before .before .before .next-decimal .ensures .0)) (c .before .before .put .ensures),
+  omega (arith, c .before .before .before .before .before .before .before .before .before .before .before .before .before .before .pre .0, c .before .before .before .before .before .before .before .before .before .before .put-bytes .ensures .moved, c .before .before .before .before .before .before .next-decimal .ensures .1, c .before .before .put .ensures .moved),
+)
 
 pub put-named-spec : {M : Type 1} → statement M
 put-named-spec =
