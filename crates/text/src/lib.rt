@@ -47,28 +47,21 @@ fn put_bytes(out: &mut [u8], at: usize, word: &[u8]) -> usize
 
 // ---- numbers
 
-fn digit(d: u8) -> u8
+fn digit(d: u64) -> u8
     requires { ⌜ d < 16 ⌝ }
     ensures { λ r. ⌜ r ≡ glyph d ⌝ }
 {
     if d < 10 {
-        return 48 + d;
+        return (48 + d) as u8;
     }
-    87 + d
-}
-
-fn low(n: u64) -> u8
-    requires { ⌜ n < 16 ⌝ }
-    ensures { λ r. ⌜ r ≡ n ⌝ }
-{
-    n as u8
+    (87 + d) as u8
 }
 
 fn put_digit(out: &mut [u8], at: usize, d: u64) -> usize
     requires { ⌜ (d < 16) × (at + 1 ≤ length (now out)) ⌝ }
     ensures { λ r. ⌜ Emitted (now (out .entry)) at (glyph d ∷ []) (now (out .exit)) r ⌝ }
 {
-    put(out, at, digit(low(d)))
+    put(out, at, digit(d))
 }
 
 // The digits of n to the base, which is 10 or 16: those of the quotient first, then the remainder.
@@ -191,18 +184,18 @@ fn put_named(out: &mut [u8], at: usize, word: &[u8], n: u64) -> usize
     put(out, b, b'\n')
 }
 
-fn put_action(out: &mut [u8], at: usize, x: Action) -> usize
+fn put_action(out: &mut [u8], at: usize, kind: u64, a: u64, b: u64, c: u64, d: u64) -> usize
     requires { ⌜ at + 128 ≤ length (now out) ⌝ }
-    ensures { λ r. ⌜ Emitted (now (out .entry)) at (actionLine x) (now (out .exit)) r ⌝ }
+    ensures { λ r. ⌜ Emitted (now (out .entry)) at (row (32 ∷ []) (hex kind ∷ hex a ∷ hex b ∷ hex c ∷ hex d ∷ [])) (now (out .exit)) r ⌝ }
     ensures { λ r. ⌜ r ≤ at + 128 ⌝ }
 {
-    let a = put(out, at, b' ');
-    let b = next_hex(out, a, x.kind);
-    let c = next_hex(out, b, x.a);
-    let d = next_hex(out, c, x.b);
-    let e = next_hex(out, d, x.c);
-    let f = next_hex(out, e, x.d);
-    put(out, f, b'\n')
+    let p = put(out, at, b' ');
+    let q = next_hex(out, p, kind);
+    let s = next_hex(out, q, a);
+    let t = next_hex(out, s, b);
+    let u = next_hex(out, t, c);
+    let v = next_hex(out, u, d);
+    put(out, v, b'\n')
 }
 
 fn put_queue(out: &mut [u8], at: usize, index: u64) -> usize
@@ -315,7 +308,7 @@ pub fn action_line(out: &mut [u8], at: usize, x: Action) -> usize
     ensures { λ r. ⌜ r ≤ at + 128 ⌝ }
 {
     if has_room(DETAIL_ROOM, out.len(), at) {
-        return put_action(out, at, x);
+        return put_action(out, at, x.kind, x.a, x.b, x.c, x.d);
     }
     at
 }

@@ -1,4 +1,5 @@
 use Rattle.words.proofs.Actions.{still}
+use Rattle.text.specs.Details.{actionLine}
 use Rattle.text.proofs.Pieces.{room-means}
 use mathlib.Core.Path.{sym, _∙_}
 use native.Mathlib.Omega.{arith}
@@ -16,6 +17,7 @@ same-length : tie.Need-same-length
 same-length c = search needs
 
 returns : tie.Need-returns
+unfolding actionLine
 returns c = (rw (sym (c .before .before .before .before .before .has-room .ensures) ∙ c .before .before .before .before .if1 .taken) (c .before .before .put-action .ensures .0), c .before .before .put-action .ensures .1)
 
 returns-2 : tie.Need-returns-2

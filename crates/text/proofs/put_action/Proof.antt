@@ -1,5 +1,4 @@
 use Rattle.words.proofs.Actions.{then}
-use Rattle.text.specs.Details.{actionLine}
 use native.Mathlib.Omega.{arith}
 use borrow.Author.Needs.{needs}
 use Rattle.text.proofs.put_action.Statement.{statement}
@@ -30,7 +29,6 @@ same-length : tie.Need-same-length
 same-length c = search needs
 
 returns : tie.Need-returns
-unfolding actionLine
 returns c = let t = c .before .before in
     let s = t .before .before .before .before in
     let r = s .before .before .before .before in
