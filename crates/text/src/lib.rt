@@ -2,8 +2,8 @@
 //! for a fixed number of bytes; where they are not left, nothing is written and the place stays.
 
 ghost use mathlib.Core.Path.{_≡_};
-ghost use mathlib.Core.List.{[], _∷_, _++_};
-ghost use Prim.Native.Nat.{ℕ, _+_, _≤_, _<_};
+ghost use mathlib.Core.List.{[], _∷_};
+ghost use Prim.Native.Nat.{_+_, _≤_, _<_};
 ghost use lib.ListN.{length};
 ghost use Rattle.words.specs.Actions.{Emitted};
 ghost use Rattle.words.specs.Pick.{pick};
