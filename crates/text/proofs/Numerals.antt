@@ -9,7 +9,7 @@ use borrow.Author.Tests.{lt-ltb, le-ltb, ltb-true, ltb-false}
 use lib.Dec.{ltb}
 use lib.ListN.{length, length-append}
 use Rattle.words.specs.Pick.{pick}
-use Rattle.text.specs.Numerals.{glyph, digits, numeral, valueOf, reads}
+use Rattle.text.specs.Numerals.{glyph, digits, numeral, pair, valueOf, reads}
 
 -- 1, 2, 4 ..
 abbrev pub twos : ℕ → ℕ
@@ -101,3 +101,8 @@ reads-digits (suc f) b n h u p = go (ltb n b) refl (reads-digits f b (n / b) h u
 pub reads-back : (b n : ℕ) → 1 < b → b ≤ 16 → n < twos 64 → reads b 0 (numeral b n) ≡ n
 unfolding numeral
 reads-back b n h u p = reads-digits 64 b n h u p
+
+-- and two digits as the low byte, which is all of a byte
+pub pair-back : (v : ℕ) → reads 16 0 (pair v) ≡ v % 256
+unfolding reads
+pair-back v = rw (value-glyph (v / 16 % 16) (omega arith), value-glyph (v % 16) (omega arith)) (omega arith)
