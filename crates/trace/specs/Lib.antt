@@ -4,3 +4,4 @@ pub mod Form
 pub mod Block
 pub mod Records
 pub mod Verdict
+pub mod Examples
