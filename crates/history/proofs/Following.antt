@@ -164,8 +164,8 @@ module _ (c : Configuration) (s : State) (p : Kind c s) where
 
   -- a move: what is known after it, and the queues
   record Moved (k : ℕ) (m : Move) : Type 0 where
-    known : knownOf (laddered s k m .state) ≡ movedOn c (knownOf s) m (accepts c (knownOf s) held k m)
-    queues : laddered s k m .state .queues ≡ applyAll (freshQueues (maxima c)) (pick (wipesAt c m (accepts c (knownOf s) held k m)) (Wipe ∷ []) []) (s .queues)
+    known : knownOf (laddered s k m .state) ≡ movedOn (knownOf s) m (accepts c (knownOf s) held k m)
+    queues : laddered s k m .state .queues ≡ applyAll (freshQueues (maxima c)) (pick (wipesAt m (accepts c (knownOf s) held k m)) (Wipe ∷ []) []) (s .queues)
 
   start-moved : (k : ℕ) → (s .flags .active ≡ true → ⊥) → Moved k Start
   start-moved k idle = record { known = knows (s .flags .active) idle (startsAt s k) _ (starts-read k); queues = holds (s .flags .active) idle (startsAt s k) _ (starts-read k) }
@@ -174,7 +174,7 @@ module _ (c : Configuration) (s : State) (p : Kind c s) where
       hs = heldAfter (s .config .base) (s .held) k (starting s k)
 
       knows : (a : Bool) → (a ≡ true → ⊥) → (b d : Bool) → b ≡ d
-          → knownOf (marking (pick a (quiet s true) (record { state = settled s b hs; ok = b; actions = starting s k })) (statusAfter Start (s .hot .status) (pick a (quiet s true) (record { state = settled s b hs; ok = b; actions = starting s k }) .ok)) .state) ≡ movedOn c (knownOf s) Start d
+          → knownOf (marking (pick a (quiet s true) (record { state = settled s b hs; ok = b; actions = starting s k })) (statusAfter Start (s .hot .status) (pick a (quiet s true) (record { state = settled s b hs; ok = b; actions = starting s k }) .ok)) .state) ≡ movedOn (knownOf s) Start d
       knows true i b d e = absurd (i refl)
       knows false i true true e = refl
       knows false i true false e = absurd (true≢false e)
@@ -195,7 +195,7 @@ module _ (c : Configuration) (s : State) (p : Kind c s) where
       hs : List Held
       hs = heldAfter (s .config .base) (s .held) k (stopping s k)
 
-      knows : (b : Bool) → knownOf (marking (record { state = pick b (wiped s hs) s; ok = b; actions = stopping s k }) (statusAfter Reset (s .hot .status) b) .state) ≡ movedOn c (knownOf s) Reset b
+      knows : (b : Bool) → knownOf (marking (record { state = pick b (wiped s hs) s; ok = b; actions = stopping s k }) (statusAfter Reset (s .hot .status) b) .state) ≡ movedOn (knownOf s) Reset b
       knows true = refl
       knows false = refl
 
@@ -231,13 +231,13 @@ module _ (c : Configuration) (s : State) (p : Kind c s) where
       by true m = refl
       by false m = refl
 
-      go : (x : Csr) → knownOf (device.controlled s k x .state) ≡ modeSet c (knownOf s) k x
+      go : (x : Csr) → knownOf (device.controlled s k x .state) ≡ modeSet (knownOf s) k x
       go Csr.Locked = refl
       go Csr.Stay = refl
       go (Csr.Turn m) = by (eqb k 0) m
   does-known v h l k W.MsiCommand = go (commandAt h)
     where
-      go : (x : Command) → knownOf (device.commanded s k x .state) ≡ commanded c (knownOf s) x
+      go : (x : Command) → knownOf (device.commanded s k x .state) ≡ commanded (knownOf s) x
       go (Update w) = refl
       go (Mask w) = refl
       go (Unmask w) = refl

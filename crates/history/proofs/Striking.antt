@@ -5,7 +5,7 @@ use mathlib.Core.Path.{_≡_, refl, sym, ap, _∙_}
 use mathlib.Core.List.{List, _∷_, _++_}
 use Prim.Native.Nat.{ℕ}
 use borrow.Author.Tests.{eqb-true}
-use lib.Dec.{eqb}
+use lib.Dec.{eqb, leb}
 use lib.ListN.{length}
 use Rattle.words.specs.Pick.{pick}
 use Rattle.words.specs.Bytes.{readLe}
@@ -34,55 +34,20 @@ pub data Names (o l : ℕ) : Type 0 where
   field : (f : Field) → writeAt o l ≡ W.QueueField f → Names o l
   nothing : writeAt o l ≡ W.Unknown → Names o l
 
--- at one of the eight offsets, by the length alone
-named : (o l : ℕ) (f : Field) → ((a b : Bool) → eqb l 4 ≡ a → eqb l 2 ≡ b → writeAt o l ≡ pick a (W.QueueField f) W.Unknown) → Names o l
-named o l f h = go (eqb l 4) (h (eqb l 4) (eqb l 2) refl refl)
+-- below the configuration a length that is neither 4 nor 2 names nothing
+unnamed : (o l : ℕ) → leb 0x100 o ≡ false → eqb l 4 ≡ false → eqb l 2 ≡ false → writeAt o l ≡ W.Unknown
+unnamed o l a four two = simp (a, four, two)
+
+-- an offset at which four bytes name a field and two bytes nothing
+named : (o l : ℕ) (f : Field) → leb 0x100 o ≡ false → writeAt o 4 ≡ W.QueueField f → writeAt o 2 ≡ W.Unknown → Names o l
+named o l f a e g = go (eqb l 4) (eqb l 2) refl refl
   where
-    go : (a : Bool) → writeAt o l ≡ pick a (W.QueueField f) W.Unknown → Names o l
-    go true e = field f e
-    go false e = nothing e
+    go : (x y : Bool) → eqb l 4 ≡ x → eqb l 2 ≡ y → Names o l
+    go true y p q = field f (rw (eqb-true l 4 p) e)
+    go false true p q = nothing (rw (eqb-true l 2 q) g)
+    go false false p q = nothing (unnamed o l a p q)
 
 module _ (l : ℕ) where
-  size-at : (a b : Bool) → eqb l 4 ≡ a → eqb l 2 ≡ b → writeAt 0x038 l ≡ pick a (W.QueueField F.Size) W.Unknown
-  size-at true b x y = rw x
-  size-at false true x y = rw (x, y)
-  size-at false false x y = rw (x, y)
-
-  ready-at : (a b : Bool) → eqb l 4 ≡ a → eqb l 2 ≡ b → writeAt 0x044 l ≡ pick a (W.QueueField F.Ready) W.Unknown
-  ready-at true b x y = rw x
-  ready-at false true x y = rw (x, y)
-  ready-at false false x y = rw (x, y)
-
-  desc-low-at : (a b : Bool) → eqb l 4 ≡ a → eqb l 2 ≡ b → writeAt 0x080 l ≡ pick a (W.QueueField F.DescLow) W.Unknown
-  desc-low-at true b x y = rw x
-  desc-low-at false true x y = rw (x, y)
-  desc-low-at false false x y = rw (x, y)
-
-  desc-high-at : (a b : Bool) → eqb l 4 ≡ a → eqb l 2 ≡ b → writeAt 0x084 l ≡ pick a (W.QueueField F.DescHigh) W.Unknown
-  desc-high-at true b x y = rw x
-  desc-high-at false true x y = rw (x, y)
-  desc-high-at false false x y = rw (x, y)
-
-  avail-low-at : (a b : Bool) → eqb l 4 ≡ a → eqb l 2 ≡ b → writeAt 0x090 l ≡ pick a (W.QueueField F.AvailLow) W.Unknown
-  avail-low-at true b x y = rw x
-  avail-low-at false true x y = rw (x, y)
-  avail-low-at false false x y = rw (x, y)
-
-  avail-high-at : (a b : Bool) → eqb l 4 ≡ a → eqb l 2 ≡ b → writeAt 0x094 l ≡ pick a (W.QueueField F.AvailHigh) W.Unknown
-  avail-high-at true b x y = rw x
-  avail-high-at false true x y = rw (x, y)
-  avail-high-at false false x y = rw (x, y)
-
-  used-low-at : (a b : Bool) → eqb l 4 ≡ a → eqb l 2 ≡ b → writeAt 0x0a0 l ≡ pick a (W.QueueField F.UsedLow) W.Unknown
-  used-low-at true b x y = rw x
-  used-low-at false true x y = rw (x, y)
-  used-low-at false false x y = rw (x, y)
-
-  used-high-at : (a b : Bool) → eqb l 4 ≡ a → eqb l 2 ≡ b → writeAt 0x0a4 l ≡ pick a (W.QueueField F.UsedHigh) W.Unknown
-  used-high-at true b x y = rw x
-  used-high-at false true x y = rw (x, y)
-  used-high-at false false x y = rw (x, y)
-
   names : (o : ℕ) → fieldOffset o ≡ true → Names o l
   names o = go (eqb o 0x038) (eqb o 0x044) (eqb o 0x080) (eqb o 0x084) (eqb o 0x090) (eqb o 0x094) (eqb o 0x0a0) (eqb o 0x0a4) refl refl refl refl refl refl refl refl
     where
@@ -91,14 +56,14 @@ module _ (l : ℕ) where
 
       go : (a b c d e f g h : Bool) → eqb o 0x038 ≡ a → eqb o 0x044 ≡ b → eqb o 0x080 ≡ c → eqb o 0x084 ≡ d → eqb o 0x090 ≡ e → eqb o 0x094 ≡ f → eqb o 0x0a0 ≡ g → eqb o 0x0a4 ≡ h
           → pick a true (pick b true (pick c true (pick d true (pick e true (pick f true (pick g true h)))))) ≡ true → Names o l
-      go true b c d e f g h i j k m n p q r z = at 0x038 i (named 0x038 l F.Size size-at)
-      go false true c d e f g h i j k m n p q r z = at 0x044 j (named 0x044 l F.Ready ready-at)
-      go false false true d e f g h i j k m n p q r z = at 0x080 k (named 0x080 l F.DescLow desc-low-at)
-      go false false false true e f g h i j k m n p q r z = at 0x084 m (named 0x084 l F.DescHigh desc-high-at)
-      go false false false false true f g h i j k m n p q r z = at 0x090 n (named 0x090 l F.AvailLow avail-low-at)
-      go false false false false false true g h i j k m n p q r z = at 0x094 p (named 0x094 l F.AvailHigh avail-high-at)
-      go false false false false false false true h i j k m n p q r z = at 0x0a0 q (named 0x0a0 l F.UsedLow used-low-at)
-      go false false false false false false false true i j k m n p q r z = at 0x0a4 r (named 0x0a4 l F.UsedHigh used-high-at)
+      go true b c d e f g h i j k m n p q r z = at 0x038 i (named 0x038 l F.Size refl refl refl)
+      go false true c d e f g h i j k m n p q r z = at 0x044 j (named 0x044 l F.Ready refl refl refl)
+      go false false true d e f g h i j k m n p q r z = at 0x080 k (named 0x080 l F.DescLow refl refl refl)
+      go false false false true e f g h i j k m n p q r z = at 0x084 m (named 0x084 l F.DescHigh refl refl refl)
+      go false false false false true f g h i j k m n p q r z = at 0x090 n (named 0x090 l F.AvailLow refl refl refl)
+      go false false false false false true g h i j k m n p q r z = at 0x094 p (named 0x094 l F.AvailHigh refl refl refl)
+      go false false false false false false true h i j k m n p q r z = at 0x0a0 q (named 0x0a0 l F.UsedLow refl refl refl)
+      go false false false false false false false true i j k m n p q r z = at 0x0a4 r (named 0x0a4 l F.UsedHigh refl refl refl)
       go false false false false false false false false i j k m n p q r z = absurd (true≢false (sym z))
 
 -- ---- such a write leaves the state as it was

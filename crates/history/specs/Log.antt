@@ -46,6 +46,49 @@ pub record Known : Type 0 where
 abbrev pub know : (status : ℕ) (active : Bool) (selector : ℕ) (doorbell msi : Bool) → Known
 know s a q d m = record { status = s; active = a; selector = q; doorbell = d; msi = m }
 
+-- ---- a move of the status
+
+-- "0xf taken: the device is activated. If that fails, state reset"; "Accepted: inactive, state reset"
+abbrev pub activeAfter : Move → (ok active : Bool) → Bool
+activeAfter (Take v) ok a = a
+activeAfter Start ok a = ok
+activeAfter Reset ok a = pick ok false a
+activeAfter Stay ok a = a
+activeAfter Fail ok a = a
+
+-- "A wipe is a state reset"
+abbrev pub wipesAt : Move → (ok : Bool) → Bool
+wipesAt (Take v) ok = false
+wipesAt Start ok = not ok
+wipesAt Reset ok = ok
+wipesAt Stay ok = false
+wipesAt Fail ok = false
+
+-- "The selector is the last 030 write since the wipe, else 0"; "MSI off; doorbell gone"
+abbrev pub movedOn : Known → Move → (ok : Bool) → Known
+movedOn h m ok =
+    know (statusAfter m (h .status) ok) (activeAfter m ok (h .active)) (pick (wipesAt m ok) 0 (h .selector))
+    (pick (wipesAt m ok) false (h .doorbell)) (pick (wipesAt m ok) false (h .msi))
+
+abbrev pub move : Known → (v : ℕ) → Move
+move h v = moveOf v (h .status) (h .active)
+
+-- ---- the message registers set FAILED, and the mode
+
+abbrev pub modeSet : Known → (k : ℕ) → Csr → Known
+modeSet h k Locked = know (failed (h .status)) (h .active) (h .selector) (h .doorbell) (h .msi)
+modeSet h k Csr.Stay = h
+modeSet h k (Turn m) =
+    know (pick (eqb k 0) (failed (h .status)) (h .status)) (h .active) (h .selector) (h .doorbell) (pick (eqb k 0) (h .msi) m)
+
+abbrev pub commanded : Known → Command → Known
+commanded h (Update v) = h
+commanded h (Mask v) = h
+commanded h (Unmask v) = h
+commanded h Other = know (failed (h .status)) (h .active) (h .selector) (h .doorbell) (h .msi)
+
+-- ---- what depends on the configuration
+
 module _ (c : Configuration) where
   -- the maximum size of a queue
   abbrev pub maximum : (q : ℕ) → ℕ
@@ -81,45 +124,6 @@ module _ (c : Configuration) where
   accepts h g k Reset = stops (h .active) k
   accepts h g k Stay = true
   accepts h g k Fail = true
-
-  -- "0xf taken: the device is activated. If that fails, state reset"; "Accepted: inactive, state reset"
-  abbrev pub activeAfter : Move → (ok active : Bool) → Bool
-  activeAfter (Take v) ok a = a
-  activeAfter Start ok a = ok
-  activeAfter Reset ok a = pick ok false a
-  activeAfter Stay ok a = a
-  activeAfter Fail ok a = a
-
-  -- "A wipe is a state reset"
-  abbrev pub wipesAt : Move → (ok : Bool) → Bool
-  wipesAt (Take v) ok = false
-  wipesAt Start ok = not ok
-  wipesAt Reset ok = ok
-  wipesAt Stay ok = false
-  wipesAt Fail ok = false
-
-  -- "The selector is the last 030 write since the wipe, else 0"; "MSI off; doorbell gone"
-  abbrev pub movedOn : Known → Move → (ok : Bool) → Known
-  movedOn h m ok =
-      know (statusAfter m (h .status) ok) (activeAfter m ok (h .active)) (pick (wipesAt m ok) 0 (h .selector))
-      (pick (wipesAt m ok) false (h .doorbell)) (pick (wipesAt m ok) false (h .msi))
-
-  abbrev pub move : Known → (v : ℕ) → Move
-  move h v = moveOf v (h .status) (h .active)
-
-  -- ---- the message registers set FAILED, and the mode
-
-  abbrev pub modeSet : Known → (k : ℕ) → Csr → Known
-  modeSet h k Locked = know (failed (h .status)) (h .active) (h .selector) (h .doorbell) (h .msi)
-  modeSet h k Csr.Stay = h
-  modeSet h k (Turn m) =
-      know (pick (eqb k 0) (failed (h .status)) (h .status)) (h .active) (h .selector) (h .doorbell) (pick (eqb k 0) (h .msi) m)
-
-  abbrev pub commanded : Known → Command → Known
-  commanded h (Update v) = h
-  commanded h (Mask v) = h
-  commanded h (Unmask v) = h
-  commanded h Other = know (failed (h .status)) (h .active) (h .selector) (h .doorbell) (h .msi)
 
   -- ---- each register: v is the word of four bytes, w that of two
 

@@ -224,17 +224,6 @@ pub fn update_queue_field(s: MmioV2DeviceState, f: Field, v: u32) -> MmioV2Devic
     s
 }
 
-fn quiet_done(s: MmioV2DeviceState) -> Done
-    ensures { λ r. ⌜ r ≡ ended (asking s []) ⌝ }
-{
-    Done {
-        state: s,
-        refusal: 0,
-        ok: true,
-        count: 0,
-    }
-}
-
 /// 020: action 11, where the status lets it through.
 pub fn set_acked_features(s: MmioV2DeviceState, v: u32, actions: &mut [u64]) -> Done
     ensures { λ r. ⌜ r ≡ done (length (now (actions .entry))) s (acked s v) ⌝ }
@@ -246,7 +235,7 @@ pub fn set_acked_features(s: MmioV2DeviceState, v: u32, actions: &mut [u64]) -> 
     if acked_features_open(s.hot.status) {
         return s.set_acked_features(v, actions);
     }
-    quiet_done(s)
+    mmio_state::quiet_done(s, true)
 }
 
 fn config_action(kind: u64, offset: u64, len: usize) -> Action
@@ -286,7 +275,7 @@ pub fn get_device_config(s: MmioV2DeviceState, offset: u64, len: usize, actions:
     if config_open(s.hot.status) {
         return tell(s, config_action(ACTION_READ_CONFIG, offset, len), actions);
     }
-    quiet_done(s)
+    mmio_state::quiet_done(s, true)
 }
 
 /// A write to the device's own configuration: action 13, where the status lets it through.
@@ -300,5 +289,5 @@ pub fn set_device_config(s: MmioV2DeviceState, offset: u64, len: usize, actions:
     if config_open(s.hot.status) {
         return tell(s, config_action(ACTION_WRITE_CONFIG, offset, len), actions);
     }
-    quiet_done(s)
+    mmio_state::quiet_done(s, true)
 }

@@ -23,11 +23,11 @@ use Rattle.mmio_state.specs.Fields.{fieldWritten}
 use Rattle.mmio_state.specs.Fresh.{freshState}
 use Rattle.mmio_state.specs.Sound.{Sound}
 use Rattle.mmio_state.proofs.Sounding.{fresh-sound}
-use Rattle.mmio_state.proofs.Keeping.{field-keeps}
+use Rattle.mmio_state.proofs.Keeping.{hot-keeps, field-keeps}
 use Rattle.mmio_msi.specs.Messages.{staged, turned, controlled, enabling, commanded, commanding}
 use Rattle.mmio_msi.proofs.Keeping.{stage-keeps, control-keeps, command-keeps}
 use Rattle.mmio_ladder.specs.Statuses.{among, statuses, topStatuses, Real}
-use Rattle.mmio_ladder.proofs.Keeping.{hot-keeps, same-real, fails-real, climb-keeps}
+use Rattle.mmio_ladder.proofs.Keeping.{same-real, fails-real, climb-keeps}
 use Rattle.mmio_access.specs.Gates.{fieldsOpen}
 use Rattle.mmio_access.specs.Changes.{fieldUpdated}
 use Rattle.mmio_v2.specs.Fresh.{refusal}

@@ -46,7 +46,7 @@ use Rattle.mmio_access.specs.Changes.{fieldUpdated}
 use Rattle.mmio_v2.specs.Registers.{does}
 use Rattle.mmio_v2.specs.Operation as op
 use Rattle.mmio_v2.specs.Step.{operated}
-use Rattle.mmio_claims.specs.Standard.{ring, ringOf, plain, Typed, placeWrites, acceptedAfter, whole, lays, sets, writeParts}
+use Rattle.mmio_claims.specs.Standard.{ring, ringOf, plain, Typed, placeWrites, acceptedAfter, whole, lays, bitsSet, writeParts}
 
 -- ---- a queue's field
 
@@ -241,7 +241,7 @@ module _ (s : State) (r : Real s) (f : ℕ → ℕ) (n : List ℕ) where
           ladder.more (refl, refl) (ladder.more (refl, refl) (ladder.more (refl, refl) (ladder.more (refl, refl) (ladder.more (refl, refl)
           (ladder.more (refl, refl) (ladder.more (refl, refl) (ladder.more (refl, refl) (ladder.more (refl, refl) (ladder.more (refl, refl) ladder.none)))))))))
 
-  status-writes : (v k : ℕ) → (m : Move) → moveOf v (s .hot .status) (s .flags .active) ≡ m → Asked v (s .hot .status) m → sets v (s .hot .status) m (moved s k m .ok) ≡ true
+  status-writes : (v k : ℕ) → (m : Move) → moveOf v (s .hot .status) (s .flags .active) ≡ m → Asked v (s .hot .status) m → bitsSet v (s .hot .status) m (moved s k m .ok) ≡ true
       → Marks v (laddered s k m)
   status-writes v k (Take w) e a h = marks v w (rw (a .0) (a .1 .1)) (rw (a .0) (a .1 .0))
   status-writes v k Start e a h = start-marks k v (a .0) (a .1) (ladder.starts-idle s r v e) h

@@ -153,12 +153,12 @@ lays s g v =
 
 -- a status that sets the bits written: one rung up, the same again, or FAILED by the driver itself; `ok` says whether what
 -- was asked was accepted
-abbrev pub sets : (v status : ℕ) → Move → (ok : Bool) → Bool
-sets v status (Take w) ok = true
-sets v status Start ok = ok
-sets v status Reset ok = false
-sets v status Stay ok = not (eqb v 0)
-sets v status Fail ok = eqb v (failed status)
+abbrev pub bitsSet : (v status : ℕ) → Move → (ok : Bool) → Bool
+bitsSet v status (Take w) ok = true
+bitsSet v status Start ok = ok
+bitsSet v status Reset ok = false
+bitsSet v status Stay ok = not (eqb v 0)
+bitsSet v status Fail ok = eqb v (failed status)
 
 abbrev pub writeParts : State → (v k : ℕ) → WriteRegister → Bool
 writeParts s v k W.DeviceFeatureSel = false
@@ -168,7 +168,7 @@ writeParts s v k W.QueueSel = false
 writeParts s v k (W.QueueField g) = not (lays s g v)
 writeParts s v k W.InterruptAck = false
 writeParts s v k W.Status =
-    let m : Move = moveOf v (s .hot .status) (s .flags .active) in not (sets v (s .hot .status) m (moved s k m .ok))
+    let m : Move = moveOf v (s .hot .status) (s .flags .active) in not (bitsSet v (s .hot .status) m (moved s k m .ok))
 writeParts s v k W.ShmSel = false
 writeParts s v k W.MsiAddressLow = false
 writeParts s v k W.MsiAddressHigh = false

@@ -12,12 +12,11 @@ use Rattle.tape.specs.declared.Held.{Held}
 use Rattle.activation.specs.Requests.{stops}
 use Rattle.registers.specs.Virtio12 as std
 use Rattle.mmio_hot.specs.Polled.{failed}
-use Rattle.mmio_hot.specs.declared.Hot.{Hot}
-use Rattle.mmio_state.specs.State.{State, withHot, failedState}
+use Rattle.mmio_state.specs.State.{State, failedState}
 use Rattle.mmio_state.specs.Activation.{wiped, activating, stopping}
 use Rattle.mmio_state.specs.Effect.{Effect}
 use Rattle.mmio_state.specs.Sound.{Sound}
-use Rattle.mmio_state.proofs.Keeping.{activate-keeps, reset-keeps, failed-keeps}
+use Rattle.mmio_state.proofs.Keeping.{hot-keeps, activate-keeps, reset-keeps, failed-keeps}
 use Rattle.mmio_ladder.specs.Ladder.{from, downMove, otherMove, moveOf}
 use Rattle.mmio_ladder.specs.Climbing.{statusSet, laddered, climbing}
 use Rattle.mmio_ladder.specs.Statuses.{among, statuses, topStatuses, Real}
@@ -66,25 +65,7 @@ rung-f = refl
 pub failed-bit : (v : ℕ) → among v statuses ≡ true → failed v ≡ bitOr v std.FAILED
 failed-bit v h = member (λ (x : ℕ). failed x ≡ bitOr x std.FAILED) v statuses (more refl (more refl (more refl (more refl (more refl (more refl (more refl (more refl (more refl (more refl none)))))))))) h
 
--- ---- states with other polled registers
-
-pub hot-keeps : (s : State) (h : Hot) → h .msi ≡ s .hot .msi → Sound s → Sound (withHot s h)
-hot-keeps s h e d =
-    record {
-      based = d .based;
-      some = d .some;
-      few = d .few;
-      within = d .within;
-      vectored = d .vectored;
-      mapped = d .mapped;
-      sizeless = d .sizeless;
-      queueless = d .queueless;
-      heldless = d .heldless;
-      vectorless = d .vectorless;
-      quiet = λ f. d .quiet (sym e ∙ f);
-      full = d .full;
-      live = d .live;
-    }
+-- ---- states with the same status, or with FAILED set
 
 module _ {s u : State} (r : Real s) (d : Sound u) (a : u .flags .active ≡ s .flags .active) where
   -- the same status, or FAILED set, in a sound state that is active if s is

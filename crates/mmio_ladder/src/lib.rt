@@ -11,7 +11,7 @@ ghost use Prim.Native.Nat.{_≤_};
 ghost use lib.ListN.{length};
 ghost use Rattle.words.specs.Pick.{pick};
 ghost use Rattle.tape.specs.Play.{laid};
-ghost use Rattle.mmio_state.specs.Effect.{done, ended, quiet, written};
+ghost use Rattle.mmio_state.specs.Effect.{done, ended, written};
 ghost use Rattle.mmio_ladder.specs.Ladder.{downMove, from, moveOf, otherMove, statusAfter};
 ghost use Rattle.mmio_ladder.specs.Climbing.{climbing, laddered, marked, statusSet};
 use mmio_hot::Hot;
@@ -139,17 +139,6 @@ fn mark(d: Done, v: u32) -> Done
     }
 }
 
-fn quiet_done(s: MmioV2DeviceState, ok: bool) -> Done
-    ensures { λ r. ⌜ r ≡ ended (quiet s ok) ⌝ }
-{
-    Done {
-        state: s,
-        refusal: 0,
-        ok,
-        count: 0,
-    }
-}
-
 fn start(s: MmioV2DeviceState, k: u32, actions: &mut [u64]) -> Done
     requires { ⌜ 320 ≤ length (now actions) ⌝ }
     ensures { λ r. ⌜ r ≡ ended (laddered s k Move.Start) ⌝ }
@@ -178,13 +167,13 @@ pub fn update_driver_status(s: MmioV2DeviceState, v: u32, k: u32, actions: &mut 
         return mmio_state::refuse(s);
     }
     match move_of(v, s.hot.status, s.flags.active) {
-        Move::Take(w) => quiet_done(set_status(s, w), true),
+        Move::Take(w) => mmio_state::quiet_done(set_status(s, w), true),
         Move::Start => start(s, k, actions),
         Move::Reset => reset(s, k, actions),
-        Move::Stay => quiet_done(s, true),
+        Move::Stay => mmio_state::quiet_done(s, true),
         Move::Fail => {
             let u = s.set_driver_failed();
-            quiet_done(u, false)
+            mmio_state::quiet_done(u, false)
         }
     }
 }

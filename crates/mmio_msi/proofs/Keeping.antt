@@ -11,7 +11,6 @@ use lib.Seq.{getD-set-other}
 use Rattle.words.specs.Pick.{pick}
 use Rattle.dragonball.specs.Messages.{noMessage, withIndexSelect}
 use Rattle.dragonball.specs.declared.Msi.{Msi}
-use Rattle.mmio_hot.specs.Polled.{withMode}
 use Rattle.mmio_config.specs.Fresh.{maxVectors, noVector}
 use Rattle.mmio_tables.specs.Tables.{updatable, vectorAt, stored, storedAt, remasked, maskedAt}
 use Rattle.mmio_hot.specs.Commands.{csrOf, commandAt}
@@ -19,9 +18,8 @@ use Rattle.mmio_hot.specs.declared.Csr.{Csr}
 use Rattle.mmio_hot.specs.declared.Csr.the-variants.{Locked, Stay, Turn}
 use Rattle.mmio_hot.specs.declared.Command.{Command}
 use Rattle.mmio_hot.specs.declared.Command.the-variants.{Update, Mask, Unmask, Other}
-use Rattle.mmio_hot.specs.declared.Hot.{Hot}
 use Rattle.mmio_config.specs.declared.Vector.{Vector}
-use Rattle.mmio_state.specs.State.{State, failedState, withStage, withVectors}
+use Rattle.mmio_state.specs.State.{State, failedState, withVectors}
 use Rattle.mmio_state.specs.Sound.{Sound}
 use Rattle.mmio_state.proofs.Keeping.{failed-keeps}
 use Rattle.mmio_msi.specs.Messages.{staged, turned, controlled, enabling, heeded, updatedState, asksMask, commanded, commanding}

@@ -5,9 +5,9 @@
 //! in half a minute.
 
 ghost use mathlib.Core.Path.{_≡_};
-ghost use mathlib.Core.Bool.{Bool, true, false, _&&_};
-ghost use mathlib.Core.List.{List, [], _∷_};
-ghost use Prim.Native.Nat.{ℕ, _%_, _^_, _<_, _≤_};
+ghost use mathlib.Core.Bool.{true, false, _&&_};
+ghost use mathlib.Core.List.{[], _∷_};
+ghost use Prim.Native.Nat.{_%_, _^_, _<_, _≤_};
 ghost use lib.ListN.{length};
 ghost use Rattle.words.specs.Pick.{pick};
 ghost use Rattle.dragonball.specs.Messages.{withAddressHigh, withAddressLow, withData};
@@ -15,7 +15,7 @@ ghost use Rattle.tape.specs.Actions.{act, setMode};
 ghost use Rattle.tape.specs.Play.{laid};
 ghost use Rattle.mmio_tables.specs.Tables.{updatable, vectorAt};
 ghost use Rattle.mmio_state.specs.State.{withVectors};
-ghost use Rattle.mmio_state.specs.Effect.{done, ended, quiet, written};
+ghost use Rattle.mmio_state.specs.Effect.{done, ended, written};
 ghost use Rattle.mmio_msi.specs.Messages.{asksMask, commanded, commanding, controlled, enabling, masking, staged, turned, updatedState};
 use dragonball::Msi;
 use mmio_config::Config;
@@ -42,17 +42,6 @@ fn told(kind: u64, v: u64) -> Action
         b: 0,
         c: 0,
         d: 0,
-    }
-}
-
-fn quiet_done(s: MmioV2DeviceState, ok: bool) -> Done
-    ensures { λ r. ⌜ r ≡ ended (quiet s ok) ⌝ }
-{
-    Done {
-        state: s,
-        refusal: 0,
-        ok,
-        count: 0,
     }
 }
 
@@ -237,7 +226,7 @@ fn mask_msi_int(
             count: 1,
         };
     }
-    quiet_done(s, true)
+    mmio_state::quiet_done(s, true)
 }
 
 /// The low half of the staged address: kept only while MSI is on.
@@ -275,9 +264,9 @@ pub fn update_msi_enable(s: MmioV2DeviceState, v: u16, k: u32, actions: &mut [u6
     match mmio_hot::csr_of(s.hot.status, v, s.hot.msi) {
         Csr::Locked => {
             let u = s.set_driver_failed();
-            quiet_done(u, false)
+            mmio_state::quiet_done(u, false)
         }
-        Csr::Stay => quiet_done(s, true),
+        Csr::Stay => mmio_state::quiet_done(s, true),
         Csr::Turn(m) => turn(s, m, k, actions),
     }
 }
@@ -296,7 +285,7 @@ pub fn handle_msi_cmd(s: MmioV2DeviceState, v: u16, k: u32, actions: &mut [u64])
         Command::Unmask(w) => mask_msi_int(s, w, false, ACTION_UNMASK, k, actions),
         Command::Other => {
             let u = s.set_driver_failed();
-            quiet_done(u, false)
+            mmio_state::quiet_done(u, false)
         }
     }
 }

@@ -2,6 +2,7 @@
 use mathlib.Core.Path.{_≡_, sym, _∙_}
 use denote.Ref.{now}
 use Rattle.mmio_state.proofs.refuse.Reads as refuse-promise
+use Rattle.mmio_state.proofs.quiet_done.Reads as quiet-done-promise
 use Rattle.mmio_state.proofs.MmioV2DeviceState.new.Reads as new-promise
 use Rattle.mmio_state.proofs.MmioV2DeviceState.set_driver_failed.Reads as set-driver-failed-promise
 use Rattle.mmio_state.proofs.MmioV2DeviceState.check_queues_valid.Reads as check-queues-valid-promise
@@ -19,6 +20,9 @@ use Rattle.mmio_state.proofs.MmioV2DeviceState.none.Reads as none-promi
 
 pub refuse-determined : (κs : _) (a : _) (r r′ : _) (s s′ : _) → refuse-promise.Post κs a r s → refuse-promise.Post κs a r′ s′ → r ≡ r′
 refuse-determined κs a r r′ s s′ p q = p ∙ sym q
+
+pub quiet-done-determined : (κs : _) (a : _) (r r′ : _) (s s′ : _) → quiet-done-promise.Post κs a r s → quiet-done-promise.Post κs a r′ s′ → r ≡ r′
+quiet-done-determined κs a r r′ s s′ p q = p ∙ sym q
 
 pub new-determined : (κs : _) (a : _) (r r′ : _) (s s′ : _) → new-promise.Post κs a r s → new-promise.Post κs a r′ s′ → r ≡ r′
 new-determined κs a r r′ s s′ p q = p ∙ sym q

@@ -2,7 +2,7 @@
 use mathlib.Core.Bool.{Bool, true, false}
 use mathlib.Core.Path.{_≡_, refl, sym, ap, ap₂, _∙_}
 use mathlib.Core.List.{List, [], _∷_}
-use Prim.Native.Nat.{ℕ, zero, suc, _+_, _<_, _≤_, min}
+use Prim.Native.Nat.{ℕ, _<_, _≤_}
 use native.Mathlib.Omega.{arith}
 use borrow.Author.Tests.{ltb-true, ltb-false, ne-eqb}
 use lib.Dec.{eqb, ltb}
@@ -23,8 +23,10 @@ use Rattle.activation.proofs.Every.{Every, none, more, Kinds, every-start, ever
 use Rattle.activation.proofs.Bound.{start-most, stop-most}
 use Rattle.activation.specs.Bound.{most}
 use Rattle.activation.specs.Requests.{stops}
+use Rattle.mmio_hot.specs.Polled.{failed, withStatus}
+use Rattle.mmio_hot.specs.declared.Hot.{Hot}
 use Rattle.mmio_config.specs.Fresh.{maxVectors, noVector}
-use Rattle.mmio_state.specs.State.{State, queuesIn, failedState}
+use Rattle.mmio_state.specs.State.{State, queuesIn, withHot, failedState}
 use Rattle.mmio_state.specs.Activation.{queuesValid, started, wiped, settled, starting, startsAt, activating, stopping, resetting}
 use Rattle.mmio_state.specs.Effect.{Effect, quiet}
 use Rattle.mmio_state.specs.Fields.{fieldWritten}
@@ -199,9 +201,10 @@ field-keeps s f v d =
         getD-set-other (s .queues) (s .hot .queue) q new noQueue (λ p. omega arith) ∙ d .queueless q h
     past q h false e = d .queueless q h
 
--- FAILED set
-pub failed-keeps : (s : State) → Sound s → Sound (failedState s)
-failed-keeps s d =
+-- ---- other polled registers, with the mode as it was
+
+pub hot-keeps : (s : State) (h : Hot) → h .msi ≡ s .hot .msi → Sound s → Sound (withHot s h)
+hot-keeps s h e d =
     record {
       based = d .based;
       some = d .some;
@@ -213,10 +216,14 @@ failed-keeps s d =
       queueless = d .queueless;
       heldless = d .heldless;
       vectorless = d .vectorless;
-      quiet = d .quiet;
+      quiet = λ f. d .quiet (sym e ∙ f);
       full = d .full;
       live = d .live;
     }
+
+-- FAILED set
+pub failed-keeps : (s : State) → Sound s → Sound (failedState s)
+failed-keeps s d = hot-keeps s (withStatus (s .hot) (failed (s .hot .status))) refl d
 
 -- ---- the bound on the records, over the number of queues
 

@@ -1,11 +1,11 @@
 -- Records played from the front of the lent words are the effect's: the state, the count and the words together.
 use mathlib.Core.Bool.{Bool, true, false}
-use mathlib.Core.Path.{_≡_, refl, sym, ap, ap₂, _∙_}
+use mathlib.Core.Path.{_≡_, sym, ap, ap₂, _∙_}
 use mathlib.Core.List.{List, [], _∷_, append-nil}
-use Prim.Native.Nat.{ℕ, _+_, _*_, _<_, _≤_}
+use Prim.Native.Nat.{ℕ, _*_, _<_, _≤_}
 use native.Mathlib.Omega.{arith}
 use borrow.Author.Tests.{lt-ltb, le-ltb, ne-eqb}
-use lib.Dec.{eqb, ltb}
+use lib.Dec.{eqb}
 use lib.ListN.{length}
 use lib.Seq.{sets}
 use Rattle.words.specs.Pick.{pick}
@@ -23,7 +23,7 @@ use Rattle.mmio_config.specs.Fresh.{refusalOf, accepted, noConfig, freshHot, co
 use Rattle.mmio_config.specs.declared.Configuration.{Configuration}
 use Rattle.mmio_config.specs.declared.Configured.{Configured}
 use Rattle.mmio_state.specs.State.{State, queuesIn}
-use Rattle.mmio_state.specs.Effect.{Effect, quiet, ended, refused, done, written}
+use Rattle.mmio_state.specs.Effect.{Effect, ended, refused, done, written}
 use Rattle.mmio_state.specs.Fresh.{begun, noHot, made}
 use Rattle.mmio_state.specs.Activation.{queuesValid, settled, wiped, starting, startsAt, activating, stopping, resetting}
 use Rattle.mmio_state.specs.declared.Done.{Done}

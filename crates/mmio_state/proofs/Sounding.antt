@@ -1,6 +1,6 @@
 -- `Sound` is what a fresh state has, and no test that document 01 doesn't name is met on a sound state.
-use mathlib.Core.Bool.{Bool, true, false, not, _&&_}
-use mathlib.Core.Path.{_≡_, refl, sym, ap, _∙_}
+use mathlib.Core.Bool.{Bool, true, false}
+use mathlib.Core.Path.{_≡_, refl, ap, _∙_}
 use mathlib.Core.List.{List}
 use Prim.Native.Nat.{ℕ, zero, suc, _+_, _-_, _*_, _^_, _<_, _≤_, min}
 use native.Mathlib.Omega.{arith}
@@ -8,17 +8,13 @@ use borrow.Author.Tests.{ltb-false, ltb-true, eqb-true, eqb-false, le-ltb, ne-eq
 use lib.Dec.{eqb, ltb}
 use lib.ListN.{length, getD, replicate, List·getD-eq-default}
 use Rattle.words.specs.Pick.{pick}
-use Rattle.words.specs.Lists.{each}
 use Rattle.words.proofs.Lists.{getD-each, length-each}
 use Rattle.virtq.specs.Index.{maxQueues}
 use Rattle.virtq.specs.Fields.{freshQueue, noQueue}
-use Rattle.virtq.specs.declared.Queue.{Queue}
 use Rattle.tape.specs.Held.{noHeld, bellAddress, noteAddress}
-use Rattle.mmio_config.specs.Fresh.{maxVectors, maxRegions, refusalOf, queueCount, hasControl, maximumAt, maxima, freshQueues, noVector, noVectors}
-use Rattle.mmio_tables.specs.Tables.{counted}
+use Rattle.mmio_config.specs.Fresh.{maxVectors, maxRegions, refusalOf, queueCount, hasControl, maximumAt, maxima, freshQueues, noVector}
 use Rattle.mmio_config.specs.declared.Configuration.{Configuration}
-use Rattle.mmio_config.specs.declared.Vector.{Vector}
-use Rattle.mmio_config.proofs.Accepting.{Passed, passed, at-most-one}
+use Rattle.mmio_config.proofs.Accepting.{Passed, passed}
 use Rattle.mmio_state.specs.State.{State, queuesIn}
 use Rattle.mmio_state.specs.Fresh.{freshState}
 use Rattle.mmio_state.specs.Sound.{Sound}

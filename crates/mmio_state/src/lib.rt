@@ -5,15 +5,14 @@
 //! the action list; `k` says how many answered requests are accepted.
 
 ghost use mathlib.Core.Path.{_≡_};
-ghost use mathlib.Core.Bool.{Bool, true, false};
-ghost use mathlib.Core.List.{List, [], _∷_};
-ghost use Prim.Native.Nat.{ℕ, _≤_};
+ghost use mathlib.Core.Bool.{true, false};
+ghost use Prim.Native.Nat.{_≤_};
 ghost use lib.ListN.{length};
 ghost use Rattle.words.specs.Pick.{pick};
 ghost use Rattle.tape.specs.Actions.{ackFeatures};
 ghost use Rattle.tape.specs.Play.{laid};
 ghost use Rattle.mmio_state.specs.State.{failedState};
-ghost use Rattle.mmio_state.specs.Effect.{done, ended, refused, written};
+ghost use Rattle.mmio_state.specs.Effect.{done, ended, quiet, refused, written};
 ghost use Rattle.mmio_state.specs.Fresh.{begun, made, noHot, noState};
 ghost use Rattle.mmio_state.specs.Activation.{activating, queuesValid, resetting, settled, started, wiped};
 ghost use Rattle.mmio_state.specs.Fields.{acking, asked, askedHeld, fieldWritten, offered, selectedMax, selectedReady, selectedRegion};
@@ -158,6 +157,18 @@ pub fn refuse(s: MmioV2DeviceState) -> Done
         state: s,
         refusal: 7,
         ok: false,
+        count: 0,
+    }
+}
+
+/// Done with nothing asked.
+pub fn quiet_done(s: MmioV2DeviceState, ok: bool) -> Done
+    ensures { λ r. ⌜ r ≡ ended (quiet s ok) ⌝ }
+{
+    Done {
+        state: s,
+        refusal: 0,
+        ok,
         count: 0,
     }
 }

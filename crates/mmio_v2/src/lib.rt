@@ -166,12 +166,7 @@ fn ask(s: MmioV2DeviceState, offset: u64, len: usize, actions: &mut [u64]) -> us
 fn quiet(s: MmioV2DeviceState) -> Done
     ensures { λ r. ⌜ r ≡ ended (quiet s true) ⌝ }
 {
-    Done {
-        state: s,
-        refusal: 0,
-        ok: true,
-        count: 0,
-    }
+    mmio_state::quiet_done(s, true)
 }
 
 // What a write to a register does: v is the word of four bytes, h that of two, len the length.

@@ -1,6 +1,5 @@
 -- THE CLAIM on the examples: each trace has the verdict that it must have, by computing.
 use mathlib.Core.Path.{_≡_, refl}
-use Prim.Native.Nat.{ℕ}
 use lib.ListN.{length}
 use Rattle.words.specs.Bytes.{readLe}
 use Rattle.trace.specs.Block.{windowAt, traitsAt, amountsAt, sizesAt, regionsAt, blockAt}

@@ -4,16 +4,15 @@ use mathlib.Core.Path.{_≡_, refl, sym, ap, _∙_}
 use mathlib.Core.List.{List}
 use Prim.Native.Nat.{ℕ, zero, suc, _+_, _-_, _<_, _≤_}
 use native.Mathlib.Omega.{arith}
-use borrow.Author.Tests.{eqb-true, eqb-false, eq-eqb, ne-eqb, leb-true, lt-ltb, le-ltb}
+use borrow.Author.Tests.{eqb-true, eqb-false, ne-eqb, leb-true, lt-ltb, le-ltb}
 use lib.Dec.{eqb, leb, ltb}
 use lib.ListN.{length}
 use Rattle.words.specs.Pick.{pick}
 use Rattle.mmio_v2.specs.Fresh.{refusal}
 use Rattle.trace.specs.Numbers.{wordAt}
-use Rattle.trace.specs.Form.{knownVersion, blockPlace, recordsPlace, poolPlace}
+use Rattle.trace.specs.Form.{knownVersion}
 use Rattle.trace.specs.Block.{blockAt}
-use Rattle.trace.specs.Verdict.{count, counted, poolLength, fits, laid, layoutOf, judgedOf, orElse, judgedFrom, recordOf, verdictOf, Good, nextAt}
-use Rattle.trace.specs.declared.Next.{Next}
+use Rattle.trace.specs.Verdict.{count, counted, laid, layoutOf, judgedOf, orElse, judgedFrom, recordOf, verdictOf, Good, nextAt}
 use Rattle.trace.specs.declared.Next.the-variants.{End, Bad, One}
 
 -- ---- a layout with nothing wrong

@@ -1,5 +1,5 @@
 -- What a version says of a trace: the configuration block's length, how many sizes it has, and where memory stands in it
--- (01, The trace). A later version adds a clause here.
+-- (01, The trace). There is one version; with a second one `form` takes the version's number.
 use mathlib.Core.Bool.{Bool}
 use Prim.Native.Nat.{ℕ, _+_, _*_}
 use lib.Dec.{eqb}

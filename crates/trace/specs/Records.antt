@@ -1,6 +1,6 @@
 -- One record, and what is wrong with it (01, The trace; refusals 11 and 12): "u32 kind (1 read, 2 write, 3 raise), u32 k, u64
 -- offset or bits, u32 length, u32 start in pool".
-use mathlib.Core.Bool.{Bool, true, false, _&&_}
+use mathlib.Core.Bool.{Bool, true, false}
 use mathlib.Core.List.{List}
 use Prim.Native.Nat.{ℕ, _+_, _^_}
 use lib.Dec.{eqb, leb, ltb}

@@ -1,6 +1,6 @@
 -- The verdict on any bytes (01, The trace): "Layout, then record by record (11 before 12 in each), then configuration are
 -- checked before anything runs". 0 where the trace may run. Sums are of whole numbers: none wraps.
-use mathlib.Core.Bool.{Bool, true, false, not, _||_}
+use mathlib.Core.Bool.{Bool, false}
 use mathlib.Core.Path.{_≡_}
 use mathlib.Core.List.{List}
 use Prim.Native.Nat.{ℕ, zero, suc, _+_, _*_, _<_}

@@ -1,6 +1,6 @@
-use Rattle.mmio_msi.specs.Messages.{commanding}
+use Rattle.mmio_msi.specs.Messages.{commanded, commanding}
 use Rattle.mmio_hot.proofs.Messaging.{update-small}
-use Rattle.mmio_msi.proofs.Messaging.{by-command}
+use Rattle.mmio_state.proofs.Cases.{by-case}
 use Rattle.mmio_state.proofs.Operating.{no-room}
 use mathlib.Core.Path.{refl, sym, _∙_}
 use borrow.Author.Needs.{needs}
@@ -47,22 +47,22 @@ same-length : tie.Need-same-length
 same-length c = search needs
 
 returns-2 : tie.Need-returns-2
-returns-2 c = by-command _ _ (c .before .before .before .before .before .before .before .before .before .before .args .s) (c .before .before .before .before .before .before .before .before .before .before .args .v) (c .before .before .before .before .before .before .before .before .before .before .args .k) _ (c .before .before .before .before .before .before .before .before .if1 .left) _ (sym (c .before .before .before .before .before .before .before .command-at .ensures) ∙ c .before .before .before .before .before .w .given .1) (c .before .before .update-msi-cfg .ensures .0) (c .before .before .update-msi-cfg .ensures .1)
+returns-2 c = by-case (commanded (c .before .before .before .before .before .before .before .before .before .before .args .s) (c .before .before .before .before .before .before .before .before .before .before .args .k)) _ _ (c .before .before .before .before .before .before .before .before .before .before .args .s) _ (c .before .before .before .before .before .before .before .before .if1 .left) _ _ (sym (c .before .before .before .before .before .before .before .command-at .ensures) ∙ c .before .before .before .before .before .w .given .1) (c .before .before .update-msi-cfg .ensures .0) (c .before .before .update-msi-cfg .ensures .1)
 
 same-length-2 : tie.Need-same-length-2
 same-length-2 c = search needs
 
 returns-3 : tie.Need-returns-3
-returns-3 c = by-command _ _ (c .before .before .before .before .before .before .before .before .before .before .args .s) (c .before .before .before .before .before .before .before .before .before .before .args .v) (c .before .before .before .before .before .before .before .before .before .before .args .k) _ (c .before .before .before .before .before .before .before .before .if1 .left) _ (sym (c .before .before .before .before .before .before .before .command-at .ensures) ∙ c .before .before .before .before .before .w2 .given .1) (c .before .before .mask-msi-int .ensures .0) (c .before .before .mask-msi-int .ensures .1)
+returns-3 c = by-case (commanded (c .before .before .before .before .before .before .before .before .before .before .args .s) (c .before .before .before .before .before .before .before .before .before .before .args .k)) _ _ (c .before .before .before .before .before .before .before .before .before .before .args .s) _ (c .before .before .before .before .before .before .before .before .if1 .left) _ _ (sym (c .before .before .before .before .before .before .before .command-at .ensures) ∙ c .before .before .before .before .before .w2 .given .1) (c .before .before .mask-msi-int .ensures .0) (c .before .before .mask-msi-int .ensures .1)
 
 same-length-3 : tie.Need-same-length-3
 same-length-3 c = search needs
 
 returns-4 : tie.Need-returns-4
-returns-4 c = by-command _ _ (c .before .before .before .before .before .before .before .before .before .before .args .s) (c .before .before .before .before .before .before .before .before .before .before .args .v) (c .before .before .before .before .before .before .before .before .before .before .args .k) _ (c .before .before .before .before .before .before .before .before .if1 .left) _ (sym (c .before .before .before .before .before .before .before .command-at .ensures) ∙ c .before .before .before .before .before .w3 .given .1) (c .before .before .mask-msi-int2 .ensures .0) (c .before .before .mask-msi-int2 .ensures .1)
+returns-4 c = by-case (commanded (c .before .before .before .before .before .before .before .before .before .before .args .s) (c .before .before .before .before .before .before .before .before .before .before .args .k)) _ _ (c .before .before .before .before .before .before .before .before .before .before .args .s) _ (c .before .before .before .before .before .before .before .before .if1 .left) _ _ (sym (c .before .before .before .before .before .before .before .command-at .ensures) ∙ c .before .before .before .before .before .w3 .given .1) (c .before .before .mask-msi-int2 .ensures .0) (c .before .before .mask-msi-int2 .ensures .1)
 
 returns-5 : tie.Need-returns-5
-returns-5 c = by-command _ _ (c .before .before .before .before .before .before .before .args .s) (c .before .before .before .before .before .before .before .args .v) (c .before .before .before .before .before .before .before .args .k) _ (c .before .before .before .before .before .if1 .left) _ (sym (c .before .before .before .before .command-at .ensures) ∙ c .before .before .enum-told .given .1) (rw (c .before .set-driver-failed .ensures) at (c .quiet-done .ensures)) refl
+returns-5 c = by-case (commanded (c .before .before .before .before .before .before .before .args .s) (c .before .before .before .before .before .before .before .args .k)) _ _ (c .before .before .before .before .before .before .before .args .s) _ (c .before .before .before .before .before .if1 .left) _ _ (sym (c .before .before .before .before .command-at .ensures) ∙ c .before .before .enum-told .given .1) (rw (c .before .set-driver-failed .ensures) at (c .quiet-done .ensures)) refl
 
 pub handle-msi-cmd-spec : {M : Type 1} → statement M
 handle-msi-cmd-spec =

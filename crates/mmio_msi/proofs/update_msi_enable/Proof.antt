@@ -1,5 +1,5 @@
-use Rattle.mmio_msi.specs.Messages.{enabling}
-use Rattle.mmio_msi.proofs.Messaging.{by-csr}
+use Rattle.mmio_msi.specs.Messages.{controlled, enabling}
+use Rattle.mmio_state.proofs.Cases.{by-case}
 use Rattle.mmio_state.proofs.Operating.{no-room}
 use mathlib.Core.Path.{refl, sym, _∙_}
 use borrow.Author.Needs.{needs}
@@ -37,16 +37,16 @@ turn-requires : tie.Need-turn-requires
 turn-requires c κs = search needs
 
 returns-2 : tie.Need-returns-2
-returns-2 c = by-csr _ _ (c .before .before .before .before .before .before .before .args .s) (c .before .before .before .before .before .before .before .args .v) (c .before .before .before .before .before .before .before .args .k) _ (c .before .before .before .before .before .if1 .left) _ (sym (c .before .before .before .before .csr-of .ensures) ∙ c .before .before .enum-told .given .1) (rw (c .before .set-driver-failed .ensures) at (c .quiet-done .ensures)) refl
+returns-2 c = by-case (controlled (c .before .before .before .before .before .before .before .args .s) (c .before .before .before .before .before .before .before .args .k)) _ _ (c .before .before .before .before .before .before .before .args .s) _ (c .before .before .before .before .before .if1 .left) _ _ (sym (c .before .before .before .before .csr-of .ensures) ∙ c .before .before .enum-told .given .1) (rw (c .before .set-driver-failed .ensures) at (c .quiet-done .ensures)) refl
 
 returns-3 : tie.Need-returns-3
-returns-3 c = by-csr _ _ (c .before .before .before .before .before .before .args .s) (c .before .before .before .before .before .before .args .v) (c .before .before .before .before .before .before .args .k) _ (c .before .before .before .before .if1 .left) _ (sym (c .before .before .before .csr-of .ensures) ∙ c .before .enum-told2 .given .1) (c .quiet-done2 .ensures) refl
+returns-3 c = by-case (controlled (c .before .before .before .before .before .before .args .s) (c .before .before .before .before .before .before .args .k)) _ _ (c .before .before .before .before .before .before .args .s) _ (c .before .before .before .before .if1 .left) _ _ (sym (c .before .before .before .csr-of .ensures) ∙ c .before .enum-told2 .given .1) (c .quiet-done2 .ensures) refl
 
 same-length : tie.Need-same-length
 same-length c = search needs
 
 returns-4 : tie.Need-returns-4
-returns-4 c = by-csr _ _ (c .before .before .before .before .before .before .before .before .before .before .args .s) (c .before .before .before .before .before .before .before .before .before .before .args .v) (c .before .before .before .before .before .before .before .before .before .before .args .k) _ (c .before .before .before .before .before .before .before .before .if1 .left) _ (sym (c .before .before .before .before .before .before .before .csr-of .ensures) ∙ c .before .before .before .before .before .m .given .1) (c .before .before .turn .ensures .0) (c .before .before .turn .ensures .1)
+returns-4 c = by-case (controlled (c .before .before .before .before .before .before .before .before .before .before .args .s) (c .before .before .before .before .before .before .before .before .before .before .args .k)) _ _ (c .before .before .before .before .before .before .before .before .before .before .args .s) _ (c .before .before .before .before .before .before .before .before .if1 .left) _ _ (sym (c .before .before .before .before .before .before .before .csr-of .ensures) ∙ c .before .before .before .before .before .m .given .1) (c .before .before .turn .ensures .0) (c .before .before .turn .ensures .1)
 
 pub update-msi-enable-spec : {M : Type 1} → statement M
 update-msi-enable-spec =
