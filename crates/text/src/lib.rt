@@ -232,7 +232,8 @@ fn put_fields(
 
 // ---- lines where there may be none
 
-fn has_room(need: usize, len: usize, at: usize) -> bool
+/// Whether so many bytes are left, from a place on, of a buffer of this length.
+pub fn has_room(need: usize, len: usize, at: usize) -> bool
     ensures { λ r. ⌜ r ≡ room need len at ⌝ }
 {
     if len < need {

@@ -1,6 +1,7 @@
 -- Any two results that a promise of this floor allows are equal.
 use mathlib.Core.Path.{_≡_, sym, _∙_}
 use Rattle.trace.proofs.configuration.Reads as configuration-promise
+use Rattle.trace.proofs.kind_good.Reads as kind-good-promise
 use Rattle.trace.proofs.judge.Reads as judge-promise
 use Rattle.trace.proofs.layout.Reads as layout-promise
 use Rattle.trace.proofs.count.Reads as count-promise
@@ -9,6 +10,9 @@ use Rattle.trace.proofs.verdict.Reads as verdict-promise
 
 pub configuration-determined : (κs : _) (a : _) (r r′ : _) (s s′ : _) → configuration-promise.Post κs a r s → configuration-promise.Post κs a r′ s′ → r ≡ r′
 configuration-determined κs a r r′ s s′ p q = p ∙ sym q
+
+pub kind-good-determined : (κs : _) (a : _) (r r′ : _) (s s′ : _) → kind-good-promise.Post κs a r s → kind-good-promise.Post κs a r′ s′ → r ≡ r′
+kind-good-determined κs a r r′ s s′ p q = p ∙ sym q
 
 pub judge-determined : (κs : _) (a : _) (r r′ : _) (s s′ : _) → judge-promise.Post κs a r s → judge-promise.Post κs a r′ s′ → r ≡ r′
 judge-determined κs a r r′ s s′ p q = p ∙ sym q

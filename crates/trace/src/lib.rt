@@ -215,7 +215,8 @@ fn record_at(s: &[u8], at: usize) -> Record
     }
 }
 
-fn kind_good(r: Record) -> bool
+/// Whether a record's kind is 1 to 3, and the bits of a raise are below 2^32.
+pub fn kind_good(r: Record) -> bool
     ensures { λ g. ⌜ g ≡ kindGood r ⌝ }
 {
     if r.kind == 1 {

@@ -8,6 +8,7 @@ use Rattle.virtq.proofs.Queue.get.Reads as gets
 use Rattle.virtq.proofs.Queue.update.Reads as updates
 use Rattle.virtq.proofs.Queue.valid.Reads as valids
 use Rattle.virtq.proofs.Memory.inside.Reads as insides
+use Rattle.virtq.proofs.address.Reads as addresses
 use Rattle.virtq.proofs.first_invalid.Reads as scans
 
 pub vector-determined : (κs : _) (a : _) (r r′ : _) (s s′ : _) → vectors.Post κs a r s → vectors.Post κs a r′ s′ → r ≡ r′
@@ -36,3 +37,6 @@ inside-determined κs a r r′ s s′ p q = p ∙ sym q
 
 pub first-invalid-determined : (κs : _) (a : _) (r r′ : _) (s s′ : _) → scans.Post κs a r s → scans.Post κs a r′ s′ → r ≡ r′
 first-invalid-determined κs a r r′ s s′ p q = p ∙ sym q
+
+pub address-determined : (κs : _) (a : _) (r r′ : _) (s s′ : _) → addresses.Post κs a r s → addresses.Post κs a r′ s′ → r ≡ r′
+address-determined κs a r r′ s s′ p q = p ∙ sym q

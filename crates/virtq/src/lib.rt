@@ -229,7 +229,8 @@ impl Memory {
     }
 }
 
-fn address(low: u32, high: u32) -> u64
+/// An address of its two halves.
+pub fn address(low: u32, high: u32) -> u64
     ensures { λ r. ⌜ r ≡ address low high ⌝ }
 {
     (high as u64) * 0x1_0000_0000 + (low as u64)

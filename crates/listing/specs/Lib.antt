@@ -1,0 +1,2 @@
+-- The lines that an option adds to a record's own line.
+pub mod Listing
