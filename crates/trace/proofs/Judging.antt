@@ -10,9 +10,9 @@ use lib.ListN.{length}
 use Rattle.words.specs.Pick.{pick}
 use Rattle.mmio_v2.specs.Fresh.{refusal}
 use Rattle.trace.specs.Numbers.{wordAt}
-use Rattle.trace.specs.Form.{knownVersion}
+use Rattle.trace.specs.Form.{knownVersion, blockPlace, recordsPlace, poolPlace}
 use Rattle.trace.specs.Block.{blockAt}
-use Rattle.trace.specs.Verdict.{count, counted, laid, layoutOf, judgedOf, orElse, judgedFrom, recordOf, verdictOf, Good, nextAt}
+use Rattle.trace.specs.Verdict.{count, poolLength, counted, laid, layoutOf, judgedOf, orElse, judgedFrom, recordOf, verdictOf, Good, nextAt}
 use Rattle.trace.specs.declared.Next.the-variants.{End, Bad, One}
 
 -- ---- a layout with nothing wrong
@@ -21,9 +21,13 @@ first : (t u : Bool) → pick t u false ≡ true → t ≡ true
 first true u e = refl
 first false u e = absurd (true≢false (sym e))
 
-pub laid-few : (s : List ℕ) → layoutOf s ≡ 0 → count s ≤ 2000
+second : (t u : Bool) → pick t u false ≡ true → u ≡ true
+second true u e = e
+second false u e = absurd (true≢false (sym e))
+
+laid-out : (s : List ℕ) → layoutOf s ≡ 0 → laid s ≡ true
 unfolding layoutOf
-laid-few s e = leb-true (count s) 2000 (first (leb (count s) 2000) _ (right (ltb (length s) 24) (ltb 65536 (length s)) (knownVersion (wordAt s 0)) (laid s) e))
+laid-out s e = right (ltb (length s) 24) (ltb 65536 (length s)) (knownVersion (wordAt s 0)) (laid s) e
   where
     no : {n : ℕ} → n ≡ 0 → 0 < n → ⊥
     no e h = omega arith
@@ -34,6 +38,18 @@ laid-few s e = leb-true (count s) 2000 (first (leb (count s) 2000) _ (right (ltb
     right false false true true e = refl
     right false false true false e = absurd (no e (omega arith))
     right false false false d e = absurd (no e (omega arith))
+
+pub laid-few : (s : List ℕ) → layoutOf s ≡ 0 → count s ≤ 2000
+laid-few s e = leb-true (count s) 2000 (first (leb (count s) 2000) _ (laid-out s e))
+
+-- the pool ends where the bytes do
+pub laid-whole : (s : List ℕ) → layoutOf s ≡ 0 → poolPlace (count s) + poolLength s ≡ length s
+laid-whole s e =
+    eqb-true (poolPlace (count s) + poolLength s) (length s)
+    (second (eqb (wordAt s 16) (poolPlace (count s))) _
+    (second (eqb (wordAt s 12) recordsPlace) _
+    (second (eqb (wordAt s 8) blockPlace) _
+    (second (leb (count s) 2000) _ (laid-out s e)))))
 
 -- ---- the records, one by one
 
