@@ -88,7 +88,7 @@ class Line:
     def arguments(self, least, most, usage):
         count = len(self.words) - 1
         if not least <= count <= most:
-            self.fail(f'`{self.words[0]}` has {count} words after it', f'write `{usage}`')
+            self.fail(f'words after `{self.words[0]}`: {count}', f'write `{usage}`')
         return self.words[1:]
 
 
@@ -141,7 +141,7 @@ def set_name(trace, line):
 
 
 def set_sizes(trace, line):
-    words = line.arguments(1, MOST_SIZES, f'sizes NUMBER...` with at most {MOST_SIZES} numbers, `queues N')
+    words = line.arguments(1, MOST_SIZES, f'sizes NUMBER...` with {MOST_SIZES} at most; their count in use is `queues N')
     trace.sizes = [line.number(word, 16) for word in words]
 
 
@@ -205,7 +205,7 @@ def with_number_set(line, made):
     place, width, value = line.arguments(3, 3, 'set PLACE WIDTH VALUE')
     place, width = line.number(place, 32), line.number(width, 8)
     if place + width > len(made):
-        line.fail(f'the trace has {len(made)} bytes there', 'set a place within them')
+        line.fail(f'the trace ends after {len(made)} bytes', 'set a place within them')
     return made[:place] + value_bytes(line, value, str(width)) + made[place + width:]
 
 
@@ -254,7 +254,7 @@ def expanded(lines, within=(), opened=None):
             out += included(line, within)
         elif line.words[0] == 'repeat':
             times = line.number(*line.arguments(1, 1, 'repeat N'), 16)
-            out += expanded(lines, within, line) * times
+            out += repeated(expanded(lines, within, line), times)
         elif line.words[0] == 'end':
             if opened is None:
                 line.fail('`end` closes nothing', 'remove it, or write `repeat N` before it')
@@ -264,6 +264,11 @@ def expanded(lines, within=(), opened=None):
     if opened is not None:
         opened.fail('this block has no end', 'write `end` after its last line')
     return out
+
+
+def repeated(lines, times):
+    return [Line(line.place, [str(turn) if word == '$' else word for word in line.words])
+            for turn in range(times) for line in lines]
 
 
 def included(line, within):
@@ -283,8 +288,8 @@ def traces_of(path):
     for line in expanded(read_lines(path)):
         if line.words[0] == 'trace':
             name, = line.arguments(1, 1, 'trace NAME')
-            if name in named:
-                line.fail(f'`{name}` stands here twice', 'choose another name')
+            if name in named or not re.fullmatch(r'\w[\w.-]*', name):
+                line.fail(f'`{name}` is taken, or no name for a file', 'choose another, of letters, digits and -')
             lines = named[name] = list(common)
         else:
             lines.append(line)
@@ -296,7 +301,7 @@ def made_from(lines):
     for line in lines:
         form = FORMS.get(line.words[0])
         if form is None:
-            line.fail(f'`{line.words[0]}` is no form of a line', 'use one of ' + ' '.join(FORMS))
+            line.fail(f'`{line.words[0]}` begins no line', 'use one of trace include repeat end ' + ' '.join(FORMS))
         form(trace, line)
     return trace.made()
 
