@@ -101,51 +101,51 @@ module _ (o : Show) (s l : List ℕ) where
   module _ (n a : ℕ) (l₁ l₂ : List ℕ) (d : State) (g : Part) (good : Good s) (fits : enough s (length l) ≡ true) (c : n ≡ counted s)
       (x : Emitted l 0 (pick (room 64 (length l) 0) headingLine []) l₁ a) (a≤ : a ≤ 64) (y : Parted o s d 0 l₁ a l₂ g)
     where
-    long-enough : 128 + 10304 * count s ≤ length l
-    unfolding enough
-    long-enough = leb-true (128 + 10304 * count s) (length l) (rw (good-accepted s good) at fits)
+      long-enough : 128 + 10304 * count s ≤ length l
+      unfolding enough
+      long-enough = leb-true (128 + 10304 * count s) (length l) (rw (good-accepted s good) at fits)
 
-    first : Emitted l 0 headingLine l₁ a
-    first = roomed 64 x (omega (arith, long-enough))
+      first : Emitted l 0 headingLine l₁ a
+      first = roomed 64 x (omega (arith, long-enough))
 
-    same-long : length l₂ ≡ length l
-    same-long = long (y .text) ∙ long x
+      same-long : length l₂ ≡ length l
+      same-long = long (y .text) ∙ long x
 
-    -- every record had room, so all were run
-    pub all-run : g .next ≡ count s
-    all-run = go (eqb (g .next) (count s)) refl
-      where
-        go : (t : Bool) → eqb (g .next) (count s) ≡ t → g .next ≡ count s
-        go true e = eqb-true (g .next) (count s) e
-        go false e = absurd (true≢false (sym there ∙ y .full other))
-          where
-            other : g .next ≡ count s → ⊥
-            other = eqb-false (g .next) (count s) e
+      -- every record had room, so all were run
+      pub all-run : g .next ≡ count s
+      all-run = go (eqb (g .next) (count s)) refl
+        where
+          go : (t : Bool) → eqb (g .next) (count s) ≡ t → g .next ≡ count s
+          go true e = eqb-true (g .next) (count s) e
+          go false e = absurd (true≢false (sym there ∙ y .full other))
+            where
+              other : g .next ≡ count s → ⊥
+              other = eqb-false (g .next) (count s) e
 
-            fewer : (g .next ≡ count s → ⊥) → g .next + 1 ≤ count s
-            fewer z = omega (arith, y .upto)
+              fewer : (g .next ≡ count s → ⊥) → g .next + 1 ≤ count s
+              fewer z = omega (arith, y .upto)
 
-            there : roomBefore o s d 0 (length l₁) a (g .next) ≡ true
-            there =
-                room-left 10304 (length l₁) (a + length (logText o d 0 (logFrom s 0 (g .next - 0))))
-                (omega (arith, fewer other, long x, long-enough, y .small, y .text .moved, a≤))
+              there : roomBefore o s d 0 (length l₁) a (g .next) ≡ true
+              there =
+                  room-left 10304 (length l₁) (a + length (logText o d 0 (logFrom s 0 (g .next - 0))))
+                  (omega (arith, fewer other, long x, long-enough, y .small, y .text .moved, a≤))
 
-    pub end-room : g .at + 64 ≤ length l₂
-    end-room = omega (arith, same-long, long-enough, y .small, y .upto, a≤)
+      pub end-room : g .at + 64 ≤ length l₂
+      end-room = omega (arith, same-long, long-enough, y .small, y .upto, a≤)
 
-    pub all-told : (k p : ℕ) (l₃ : List ℕ) → d ≡ freshState (blockAt s) → k ≡ n
-        → Emitted l₂ (g .at) (pick (room 64 (length l₂) (g .at)) (endLine k) []) l₃ p → Replayed o s l l₃ (record { device = g .device; len = p; whole = true })
-    unfolding replayText
-    all-told k p l₃ f q z =
-        let v = good-accepted s good in
-        let m : g .next - 0 ≡ count s = omega (arith, all-run) in
-        let j : k ≡ count s = q ∙ c ∙ counted-good s good in
-        record {
-          whole = sym fits;
-          state = rw (fits, v) (y .state ∙ ap (λ (i : ℕ). device (runFrom next d (logFrom s 0 i))) m ∙ ap (λ (u : State). device (runFrom next u (recordsOf s))) f);
-          text =
-              rw (fits, v)
-              (worded (then (then first (y .text)) (roomed 64 z end-room))
-              (ap₂ (λ (i h : ℕ). (headingLine ++ logText o d 0 (logFrom s 0 i)) ++ endLine h) m j
-              ∙ ap (λ (u : State). (headingLine ++ logText o u 0 (recordsOf s)) ++ endLine (count s)) f));
-        }
+      pub all-told : (k p : ℕ) (l₃ : List ℕ) → d ≡ freshState (blockAt s) → k ≡ n
+          → Emitted l₂ (g .at) (pick (room 64 (length l₂) (g .at)) (endLine k) []) l₃ p → Replayed o s l l₃ (record { device = g .device; len = p; whole = true })
+      unfolding replayText
+      all-told k p l₃ f q z =
+          let v = good-accepted s good in
+          let m : g .next - 0 ≡ count s = omega (arith, all-run) in
+          let j : k ≡ count s = q ∙ c ∙ counted-good s good in
+          record {
+            whole = sym fits;
+            state = rw (fits, v) (y .state ∙ ap (λ (i : ℕ). device (runFrom next d (logFrom s 0 i))) m ∙ ap (λ (u : State). device (runFrom next u (recordsOf s))) f);
+            text =
+                rw (fits, v)
+                (worded (then (then first (y .text)) (roomed 64 z end-room))
+                (ap₂ (λ (i h : ℕ). (headingLine ++ logText o d 0 (logFrom s 0 i)) ++ endLine h) m j
+                ∙ ap (λ (u : State). (headingLine ++ logText o u 0 (recordsOf s)) ++ endLine (count s)) f));
+          }

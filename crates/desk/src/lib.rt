@@ -144,14 +144,7 @@ fn run_part(
 
 /// Runs the records of a good trace from record `from` on, while `RECORD_ROOM` bytes are left for each; a device that has run
 /// those before is the caller's to keep. Of a bad trace, or past its end, nothing is run.
-pub fn piece(
-    d: MmioV2Device,
-    s: &[u8],
-    from: usize,
-    show: Show,
-    out: &mut [u8],
-    at: usize,
-) -> Part
+pub fn piece(d: MmioV2Device, s: &[u8], from: usize, show: Show, out: &mut [u8], at: usize) -> Part
     ensures { λ r. ⌜ Pieced show (now (s .entry)) (d .state) from (now (out .entry)) at (now (out .exit)) r ⌝ }
 {
     if trace::verdict(s) == 0 {

@@ -60,27 +60,27 @@ module _ (s : State) (k o m : ℕ) (b w l : List ℕ) (a : Answer) (full : 320 �
     (e : l ≡ replied (take m b) (step (length w) s (Read k o (length (take m b)))))
     (q : a ≡ answerOf (step (length w) s (Read k o (length (take m b)))))
   where
-  given : l ≡ sets (take m b) 0 (operated s (Read k o m) .reply)
-  given = e ∙ rw (done-from (length w) s (Read k o (length (take m b))) full, length-take-le m b h)
+    given : l ≡ sets (take m b) 0 (operated s (Read k o m) .reply)
+    given = e ∙ rw (done-from (length w) s (Read k o (length (take m b))) full, length-take-le m b h)
 
-  counts : a .reply ≡ length (operated s (Read k o m) .reply)
-  counts = ap (λ (x : Answer). x .reply) q ∙ rw (done-from (length w) s (Read k o (length (take m b))) full, length-take-le m b h)
+    counts : a .reply ≡ length (operated s (Read k o m) .reply)
+    counts = ap (λ (x : Answer). x .reply) q ∙ rw (done-from (length w) s (Read k o (length (take m b))) full, length-take-le m b h)
 
-  pub reply-fits : a .reply ≤ length (l ++ drop m b)
-  reply-fits = rw counts (within b (operated s (Read k o m) .reply) l m h given (short s k o m .1))
+    pub reply-fits : a .reply ≤ length (l ++ drop m b)
+    reply-fits = rw counts (within b (operated s (Read k o m) .reply) l m h given (short s k o m .1))
 
-  pub reply-back : take (a .reply) (l ++ drop m b) ≡ operated s (Read k o m) .reply
-  reply-back = rw counts (back b (operated s (Read k o m) .reply) l m h given (short s k o m .1))
+    pub reply-back : take (a .reply) (l ++ drop m b) ≡ operated s (Read k o m) .reply
+    reply-back = rw counts (back b (operated s (Read k o m) .reply) l m h given (short s k o m .1))
 
-  pub reply-sized : a .reply ≡ length (take (a .reply) (l ++ drop m b))
-  reply-sized = sym (length-take-le (a .reply) (l ++ drop m b) reply-fits)
+    pub reply-sized : a .reply ≡ length (take (a .reply) (l ++ drop m b))
+    reply-sized = sym (length-take-le (a .reply) (l ++ drop m b) reply-fits)
 
-  pub reply-short : length (take (a .reply) (l ++ drop m b)) ≤ 8
-  reply-short = rw reply-back (omega (arith, short s k o m .0))
+    pub reply-short : length (take (a .reply) (l ++ drop m b)) ≤ 8
+    reply-short = rw reply-back (omega (arith, short s k o m .0))
 
-  -- the answer and the words are those of a read of m bytes
-  pub as-asked : a ≡ answerOf (step (length w) s (Read k o m))
-  as-asked = q ∙ ap (λ (j : ℕ). answerOf (step (length w) s (Read k o j))) (length-take-le m b h)
+    -- the answer and the words are those of a read of m bytes
+    pub as-asked : a ≡ answerOf (step (length w) s (Read k o m))
+    as-asked = q ∙ ap (λ (j : ℕ). answerOf (step (length w) s (Read k o j))) (length-take-le m b h)
 
-  pub as-laid : (w′ : List ℕ) → w′ ≡ laid w (step (length w) s (Read k o (length (take m b))) .actions) → w′ ≡ laid w (step (length w) s (Read k o m) .actions)
-  as-laid w′ f = f ∙ ap (λ (j : ℕ). laid w (step (length w) s (Read k o j) .actions)) (length-take-le m b h)
+    pub as-laid : (w′ : List ℕ) → w′ ≡ laid w (step (length w) s (Read k o (length (take m b))) .actions) → w′ ≡ laid w (step (length w) s (Read k o m) .actions)
+    as-laid w′ f = f ∙ ap (λ (j : ℕ). laid w (step (length w) s (Read k o j) .actions)) (length-take-le m b h)

@@ -34,39 +34,39 @@ use Rattle.play.specs.declared.Ran.{Ran}
 module _ (s : State) (op : Operation) (w w′ : List ℕ) (a : Answer) (full : 320 ≤ length w)
     (q : a ≡ answerOf (step (length w) s op)) (e : w′ ≡ laid w (step (length w) s op .actions))
   where
-  plain : a ≡ answerOf (operated s op)
-  plain = q ∙ ap answerOf (done-from (length w) s op full)
+    plain : a ≡ answerOf (operated s op)
+    plain = q ∙ ap answerOf (done-from (length w) s op full)
 
-  written : w′ ≡ laid w (operated s op .actions)
-  written = e ∙ rw (done-from (length w) s op full)
+    written : w′ ≡ laid w (operated s op .actions)
+    written = e ∙ rw (done-from (length w) s op full)
 
-  most : length (operated s op .actions) ≤ 64
-  most = rw (done-from (length w) s op full) at (at-most (length w) s op)
+    most : length (operated s op .actions) ≤ 64
+    most = rw (done-from (length w) s op full) at (at-most (length w) s op)
 
-  counted : a .count ≡ length (operated s op .actions)
-  counted = ap (λ (x : Answer). x .count) plain
+    counted : a .count ≡ length (operated s op .actions)
+    counted = ap (λ (x : Answer). x .count) plain
 
-  pub few : a .count ≤ 64
-  few = omega (arith, counted, most)
+    pub few : a .count ≤ 64
+    few = omega (arith, counted, most)
 
-  pub words-enough : 5 * a .count ≤ length w′
-  words-enough = omega (arith, few, ap length e ∙ length-sets w 0 (wordsOfAll (step (length w) s op .actions)))
+    pub words-enough : 5 * a .count ≤ length w′
+    words-enough = omega (arith, few, ap length e ∙ length-sets w 0 (wordsOfAll (step (length w) s op .actions)))
 
-  lines : wordsText w′ (a .count) ≡ actionsText (operated s op .actions)
-  lines = rw (counted, written) (words-text w (operated s op .actions) (omega (arith, most)))
+    lines : wordsText w′ (a .count) ≡ actionsText (operated s op .actions)
+    lines = rw (counted, written) (words-text w (operated s op .actions) (omega (arith, most)))
 
-  -- its text was told, so it has run
-  pub has-run : (o : Show) (n : ℕ) (reply l : List ℕ) (at : ℕ) (l′ : List ℕ) (p : ℕ) → reply ≡ operated s op .reply
-      → Emitted l at (told o n (a .device .state) reply (a .count) (wordsText w′ (a .count))) l′ p → p ≤ at + 10304
-      → Runs true o n s op l at l′ (record { device = a .device; at = p; ran = true })
-  has-run o n reply l at l′ p r t h =
-      let d : a .device ≡ device (operated s op .state) = ap (λ (x : Answer). x .device) plain in
-      record {
-        ran = refl;
-        state = d;
-        text = worded t (rw (lines, counted, r) (ap (λ x. told o n (x .state) (operated s op .reply) (length (operated s op .actions)) (actionsText (operated s op .actions))) d));
-        small = h;
-      }
+    -- its text was told, so it has run
+    pub has-run : (o : Show) (n : ℕ) (reply l : List ℕ) (at : ℕ) (l′ : List ℕ) (p : ℕ) → reply ≡ operated s op .reply
+        → Emitted l at (told o n (a .device .state) reply (a .count) (wordsText w′ (a .count))) l′ p → p ≤ at + 10304
+        → Runs true o n s op l at l′ (record { device = a .device; at = p; ran = true })
+    has-run o n reply l at l′ p r t h =
+        let d : a .device ≡ device (operated s op .state) = ap (λ (x : Answer). x .device) plain in
+        record {
+          ran = refl;
+          state = d;
+          text = worded t (rw (lines, counted, r) (ap (λ x. told o n (x .state) (operated s op .reply) (length (operated s op .actions)) (actionsText (operated s op .actions))) d));
+          small = h;
+        }
 
 -- ---- one record
 

@@ -78,7 +78,13 @@ fn tell(
     let a = text::line(out, at, number, s.hot.status, reply, n);
     let b = actions_if(out, a, show.actions, w, n);
     let queues = s.queues;
-    queues_if(out, b, show.fields, queues, mmio_tables::queues_in(s.config.count))
+    queues_if(
+        out,
+        b,
+        show.fields,
+        queues,
+        mmio_tables::queues_in(s.config.count),
+    )
 }
 
 // ---- the three kinds
@@ -152,14 +158,7 @@ fn run_write(
     }
 }
 
-fn run_raise(
-    d: MmioV2Device,
-    number: u32,
-    bits: u32,
-    show: Show,
-    out: &mut [u8],
-    at: usize,
-) -> Ran
+fn run_raise(d: MmioV2Device, number: u32, bits: u32, show: Show, out: &mut [u8], at: usize) -> Ran
     requires { ⌜ at + 10304 ≤ length (now out) ⌝ }
     ensures { λ r. ⌜ Runs true show number (d .state) (Raise bits) (now (out .entry)) at (now (out .exit)) r ⌝ }
 {
