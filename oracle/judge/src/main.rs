@@ -1,6 +1,7 @@
 //! The unchanged Rust as judge of the port. See ../README.md.
 
 mod answers;
+mod awake;
 mod chance;
 mod compare;
 mod configuration;
@@ -21,7 +22,8 @@ use std::process::ExitCode;
 const USAGE: &str = "use: judge replay [-a] [-f] FILE...
      judge make DIR SEED COUNT sweep|random|damaged|bench
      judge compare [--port PATH] [--traces N] [--ops N] [--seed S]
-     judge store DIR N";
+     judge store DIR N
+     judge awake";
 
 /// Whether what was asked for holds, or what went wrong.
 type Outcome = Result<bool, String>;
@@ -44,6 +46,7 @@ fn command(arguments: &[String]) -> Outcome {
         ["replay", ..] => replay::replay(&arguments[1..]).map(|()| true).map_err(|error| error.to_string()),
         ["make", folder, seed, count, kind] => make(Path::new(folder), number(seed)?, number(count)?, kind),
         ["compare", ref options @ ..] => compare(options),
+        ["awake"] => awake::awake(&workspace(), Path::new(subject::SOURCE)),
         ["store", folder, count] => stored(Path::new(folder), number(count)?),
         _ => Err(format!("no such command\n{USAGE}")),
     }

@@ -20,6 +20,7 @@ fn prepare() -> Result<(), Box<dyn Error>> {
     let package = PathBuf::from(std::env::var("CARGO_MANIFEST_DIR")?);
     let source = find_source(&package)?;
     check_sums(&package.join("../SHA256SUMS"), &source)?;
+    println!("cargo::rustc-env=RUST_SOURCE={}", source.display());
     let target = PathBuf::from(std::env::var("OUT_DIR")?).join("rust.rs");
     fs::write(target, modules(&source)?)?;
     Ok(())

@@ -12,3 +12,6 @@ pub use crate_parts::*;
 pub use transport::{Queue, Setup, Transport};
 
 include!(concat!(env!("OUT_DIR"), "/rust.rs"));
+
+/// The folder that the Rust was compiled from.
+pub const SOURCE: &str = env!("RUST_SOURCE");

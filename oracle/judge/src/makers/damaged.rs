@@ -4,7 +4,7 @@ use super::{driver, random};
 use crate::chance::Chance;
 use crate::configuration::Configuration;
 use crate::draft::Draft;
-use crate::trace::{BLOCK_AT, LONGEST_FILE, RECORDS_AT, RECORD_LENGTH};
+use crate::trace::{BLOCK_AT, LONGEST_FILE, MOST_RECORDS, RECORDS_AT, RECORD_LENGTH};
 
 /// The `index`th damaged file of a seed. One in four is damaged twice, which shows the order of the checks.
 pub fn trace(seed: u64, index: u64) -> Vec<u8> {
@@ -31,13 +31,20 @@ pub fn trace(seed: u64, index: u64) -> Vec<u8> {
     bytes
 }
 
-/// A short sound trace, now and then without records.
+/// A short sound trace, now and then without records or with very many.
 fn base(chance: &mut Chance, seed: u64, index: u64) -> Draft {
     let mut draft = random::trace(seed, index);
     draft.records.truncate(chance.pick(&[0, 1, 3, 8, 12]));
     if chance.percent(10) {
         draft = Draft::new(driver::configuration(1, true));
         draft.set(0x070, 1).raise(3).read(0x060, 4);
+    }
+    if chance.percent(1) {
+        // As many records as a trace may have, or one more.
+        let count = MOST_RECORDS + chance.below(2) as usize;
+        (draft.records.len()..count).for_each(|_| {
+            draft.read(0x070, 4);
+        });
     }
     draft
 }

@@ -15,6 +15,8 @@ struct Run {
     draft: Draft,
     /// In how many of a hundred a step is a mistake.
     mistakes: u64,
+    /// In how many of a hundred a request that can set FAILED is refused. FAILED is for good, so many runs have none.
+    refusals: u64,
 }
 
 /// The `index`th random trace of a seed.
@@ -22,8 +24,9 @@ pub fn trace(seed: u64, index: u64) -> Draft {
     let mut chance = Chance::new(seed, index);
     let draft = Draft::new(configuration(&mut chance));
     let mistakes = chance.pick(&[0, 0, 1, 3, 10, 40]);
+    let refusals = chance.pick(&[0, 0, 10, 50]);
     let length = chance.pick(&[12, 40, 120, 200, 400]);
-    let mut run = Run { chance, draft, mistakes };
+    let mut run = Run { chance, draft, mistakes, refusals };
     while run.draft.records.len() < length && run.draft.has_room(200) {
         run.life();
     }
@@ -70,8 +73,9 @@ fn wide(chance: &mut Chance) -> u64 {
 impl Run {
     /// From wherever it is to a start, some work, and a reset: a device that is still sound can live again.
     fn life(&mut self) {
-        if self.chance.percent(40) {
-            self.set_short(MODE, 0x8000);
+        if self.chance.percent(60) {
+            let k = self.outcome();
+            self.draft.write(MODE, &0x8000u16.to_le_bytes(), k);
         }
         self.some(2, Run::look);
         climb(&mut self.draft, 0, 2, ALL_ACCEPTED);
@@ -86,7 +90,7 @@ impl Run {
         let k = self.outcome();
         self.draft.write(STATUS, &LADDER[4].to_le_bytes(), k);
         self.some(12, Run::work);
-        let k = self.chance.pick(&[0, 1, ALL_ACCEPTED, ALL_ACCEPTED, ALL_ACCEPTED]);
+        let k = self.outcome();
         self.draft.write(STATUS, &LADDER[0].to_le_bytes(), k);
         self.some(2, Run::anything);
     }
@@ -105,15 +109,19 @@ impl Run {
         }
     }
 
-    /// How many answered requests are accepted: mostly all, else any number that a start can tell apart.
+    /// How many answered requests are accepted: all, or any number that a start can tell apart.
     fn outcome(&mut self) -> u32 {
         let few = self.chance.below(2 * self.draft.configuration.all_queues() + 4) as u32;
-        self.chance.pick(&[ALL_ACCEPTED, ALL_ACCEPTED, ALL_ACCEPTED, few, few, 0])
+        if self.chance.percent(self.refusals) {
+            self.chance.pick(&[few, few, 0])
+        } else {
+            ALL_ACCEPTED
+        }
     }
 
-    fn set_short(&mut self, offset: u64, value: u16) {
+    fn command(&mut self, value: u16) {
         let k = self.chance.pick(&[0, ALL_ACCEPTED, ALL_ACCEPTED, ALL_ACCEPTED]);
-        self.draft.write(offset, &value.to_le_bytes(), k);
+        self.draft.write(COMMAND, &value.to_le_bytes(), k);
     }
 
     fn look(&mut self) {
@@ -147,23 +155,20 @@ impl Run {
 
     fn area(&mut self, alignment: u64) -> u64 {
         let memory = self.draft.configuration.memory;
-        let queue = self.chance.pick(&[1, 8, 256, 1024]);
-        let end = memory.saturating_sub(self.chance.pick(&[16 * queue, 6 + 2 * queue, 6 + 8 * queue, 16, 0]));
-        let inside = self.chance.below(0x40_0000);
-        let address = if self.chance.percent(4) { end } else { inside };
-        let aligned = address & !(alignment - 1);
-        if self.chance.percent(2) {
-            aligned + self.chance.pick(&[1, 2, 4, 8, 16])
-        } else {
-            aligned
-        }
+        let size = self.chance.pick(&[1, 8, 256, 1024]);
+        let end = memory.saturating_sub(self.chance.pick(&[16 * size, 6 + 2 * size, 6 + 8 * size, 16, 0]));
+        let inside = self.chance.below(memory.clamp(1, 0x40_0000));
+        let address = if self.chance.percent(1 + self.mistakes / 4) { end } else { inside };
+        let unaligned = self.chance.percent(self.mistakes / 4);
+        let slip = if unaligned { self.chance.pick(&[1, 2, 4, 8, 16]) } else { 0 };
+        (address & !(alignment - 1)) + slip
     }
 
     /// What a driver does while the device runs.
     fn work(&mut self) {
         match self.chance.below(10) {
             0 | 1 => {
-                let bits = self.chance.pick(&[1, 2, 3, 0x8000_0000, 0xa5a5_a5a5, 0x5a5a_5a5a]);
+                let bits = self.chance.pick(&[1, 2, 3, 0x8000_0000, 0xa5a5_a5a5, 0x5a5a_5a5a, u32::MAX]);
                 self.draft.raise(bits).read(INTERRUPTS, 4);
             }
             2 => {
@@ -191,11 +196,11 @@ impl Run {
         let value = self.chance.word();
         let register = self.chance.pick(&[0x0c4, 0x0c8, 0x0cc]);
         self.draft.set(register, value);
-        let vector = self.chance.below(6) as u16;
+        let vector = self.chance.pick(&[0, 1, 2, 3, 4, 5, 31, 0x101]);
         let code = self.chance.pick(&[0x1000, 0x2000, 0x3000, 0x2000]);
-        self.set_short(COMMAND, code | vector);
+        self.command(code | vector);
         if self.chance.percent(20) {
-            self.set_short(COMMAND, code | vector);
+            self.command(code | vector);
         }
     }
 

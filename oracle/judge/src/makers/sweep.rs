@@ -2,7 +2,10 @@
 
 use super::driver::{climb, configuration, lay_queues, start};
 use crate::draft::{Draft, ALL_ACCEPTED};
-use crate::registers::{edges, ACKED_PAGE, COMMAND, FEATURES_PAGE, MODE, QUEUE, READABLE, REGION, STATUS, WRITABLE};
+use crate::registers::{
+    edges, ACKED, ACKED_PAGE, AVAILABLE, COMMAND, DESCRIPTORS, FEATURES_PAGE, MODE, QUEUE, READABLE, READY, REGION,
+    SIZE, STATUS, USED, WRITABLE,
+};
 
 /// A device brought to a rung of the ladder.
 #[derive(Clone, Copy)]
@@ -22,6 +25,7 @@ enum Item {
     Register { stage: Stage, offset: u64, length: u32, value: u32, k: u32 },
     Start { queues: u32, doorbell: bool, control: bool, k: u32 },
     Messages { vectors: u32, queues: u32, k: u32 },
+    Area { register: u64, start: u64, memory: u64 },
 }
 
 /// Offsets one by one, past the doorbells' start, and some far beyond.
@@ -46,6 +50,7 @@ impl Sweep {
         }
         items.extend(start_items());
         items.extend(message_items());
+        items.extend(area_items());
         Sweep { items }
     }
 
@@ -104,6 +109,21 @@ fn message_items() -> Vec<Item> {
     items
 }
 
+/// Each of a queue's areas, close to the memory's end and to 2^64. The queue has N = 8.
+fn area_items() -> Vec<Item> {
+    let mut items = Vec::new();
+    for (register, length) in [(DESCRIPTORS, 128), (AVAILABLE, 22), (USED, 70)] {
+        for start in [0, 0x1000, 0xffff_ffe0, 0x7_ffff_fff0u64] {
+            let memories = (0..5).map(|short| (start + length + 2).saturating_sub(short));
+            items.extend(memories.map(|memory| Item::Area { register, start, memory }));
+        }
+        for start in (1..12u64).map(|step| (16 * step).wrapping_neg()) {
+            items.push(Item::Area { register, start, memory: u64::MAX });
+        }
+    }
+    items
+}
+
 impl Item {
     fn draft(&self) -> Draft {
         match *self {
@@ -119,6 +139,7 @@ impl Item {
             Item::Register { stage, offset, length, value, k } => register(stage, offset, length, value, k),
             Item::Start { queues, doorbell, control, k } => starts(queues, doorbell, control, k),
             Item::Messages { vectors, queues, k } => messages(vectors, queues, k),
+            Item::Area { register, start, memory } => area(register, start, memory),
         }
     }
 }
@@ -161,11 +182,13 @@ fn accesses(stage: Stage, chunk: usize, access: impl Fn(&mut Draft, u64, u32)) -
     draft
 }
 
-/// One write, then every register read, with the selectors moved in between.
+/// One write, then every register read, twice, with fields set and selectors moved in between.
 fn register(stage: Stage, offset: u64, length: u32, value: u32, k: u32) -> Draft {
     let mut draft = stage.draft();
     draft.write(offset, &value.to_le_bytes()[..length as usize], k);
     read_all(&mut draft);
+    // Counts only if the write left a queue selected and the device open to it.
+    draft.set(SIZE, 2).set(AVAILABLE, 0x42).set(ACKED, 5);
     draft.set(QUEUE, 1).set(FEATURES_PAGE, 1).set(ACKED_PAGE, 7).set(REGION, 1);
     read_all(&mut draft);
     draft
@@ -189,6 +212,18 @@ fn starts(queues: u32, doorbell: bool, control: bool, k: u32) -> Draft {
     draft
 }
 
+/// A queue of 8 whose other areas lie at 0, started with one area here.
+fn area(register: u64, start: u64, memory: u64) -> Draft {
+    let mut setup = configuration(1, false);
+    setup.memory = memory;
+    setup.sizes[0] = 8;
+    let mut draft = Draft::new(setup);
+    climb(&mut draft, 0, 3, ALL_ACCEPTED);
+    draft.set(register, start as u32).set(register + 4, (start >> 32) as u32).set(READY, 1);
+    climb(&mut draft, 3, 4, ALL_ACCEPTED);
+    draft
+}
+
 /// Every command code and the arguments around the bounds, before a start, while active, and after a reset.
 fn messages(vectors: u32, queues: u32, k: u32) -> Draft {
     let mut setup = configuration(queues, false);
@@ -209,7 +244,7 @@ fn messages(vectors: u32, queues: u32, k: u32) -> Draft {
 
 fn commands(draft: &mut Draft, codes: &[u16], k: u32) {
     for code in codes {
-        for argument in [0, 1, 2, 3, 4, 5, 31, 32, 0xfff] {
+        for argument in [0, 1, 2, 3, 4, 5, 31, 32, 0x101, 0x802, 0xfff] {
             draft.write(COMMAND, &(code << 12 | argument).to_le_bytes(), k);
         }
     }
