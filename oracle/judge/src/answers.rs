@@ -55,7 +55,7 @@ fn operations(text: &str) -> Vec<Operation<'_>> {
     list
 }
 
-/// Counts what differs, and gives the first pair of lines that do.
+/// Counts what differs, and tells of the first place.
 pub fn compare(expected: &str, found: &str, differences: &mut Differences) -> String {
     let (ours, theirs) = (operations(expected), operations(found));
     if ours.len() != theirs.len() || !found.ends_with('\n') {
@@ -64,16 +64,23 @@ pub fn compare(expected: &str, found: &str, differences: &mut Differences) -> St
     let mut first = None;
     for (our, their) in ours.iter().zip(&theirs) {
         if our != their {
-            first.get_or_insert_with(|| format!("Rust `{}`, port `{}`", shown(our), shown(their)));
+            first.get_or_insert_with(|| shown(our, their));
             count(our, their, differences);
         }
     }
     first.unwrap_or_else(|| format!("Rust has {} lines, port {}", ours.len(), theirs.len()))
 }
 
-fn shown(operation: &Operation) -> String {
-    let lines = [operation.line].into_iter().chain(operation.actions.iter().chain(&operation.fields).copied());
-    lines.collect::<Vec<_>>().join(" |")
+/// The operation, and the first of its lines that differ.
+fn shown(our: &Operation, their: &Operation) -> String {
+    let lines = |operation: &Operation| -> Vec<String> {
+        let all = [operation.line].into_iter().chain(operation.actions.iter().chain(&operation.fields).copied());
+        all.map(String::from).collect()
+    };
+    let (ours, theirs) = (lines(our), lines(their));
+    let same = ours.iter().zip(&theirs).take_while(|(a, b)| a == b).count();
+    let at = |list: &[String]| list.get(same).cloned().unwrap_or_else(|| "nothing more".into());
+    format!("at `{}` Rust `{}`, port `{}`", our.line, at(&ours), at(&theirs))
 }
 
 fn count(our: &Operation, their: &Operation, differences: &mut Differences) {

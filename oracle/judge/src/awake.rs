@@ -6,7 +6,7 @@ use std::path::{Path, PathBuf};
 use std::process::{Command, Stdio};
 
 /// How many traces of each kind a changed judge is asked about.
-const TRACES: [(&str, &str); 4] = [("bench", "100"), ("damaged", "1200"), ("sweep", "1500"), ("random", "1000")];
+const TRACES: [(&str, &str); 4] = [("bench", "100"), ("damaged", "1200"), ("sweep", "3000"), ("random", "1000")];
 const VARIABLE: &str = "DEWBRACKET_RUST_SRC";
 
 type Result<T> = std::result::Result<T, String>;

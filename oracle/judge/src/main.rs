@@ -73,7 +73,7 @@ fn stored(folder: &Path, count: usize) -> Outcome {
 
 /// The workspace's folder, where the judge was built.
 fn workspace() -> PathBuf {
-    Path::new(env!("CARGO_MANIFEST_DIR")).join("..")
+    Path::new(env!("CARGO_MANIFEST_DIR")).parent().expect("the package stands in the workspace").into()
 }
 
 fn compare(options: &[&str]) -> Outcome {

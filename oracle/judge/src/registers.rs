@@ -35,33 +35,14 @@ pub const WRITABLE: [(u64, u32); 21] = [
 ];
 
 /// Values at the edges of what a register tells apart.
+#[rustfmt::skip]
 pub fn edges(offset: u64) -> &'static [u32] {
     match offset {
         SIZE => &[0, 1, 2, 3, 128, 255, 256, 257, 300, 512, 1024, 0x8000, 0x10000, 0x10001, 0x10100, 0xffff_ffff],
         READY => &[0, 1, 2, 3, 0x101, 0x10001, 0x8000_0001, 0xffff_ffff],
         STATUS => &[
-            0,
-            1,
-            2,
-            3,
-            4,
-            7,
-            8,
-            0xb,
-            0xf,
-            0x1b,
-            0x40,
-            0x80,
-            0x81,
-            0x83,
-            0x8b,
-            0x8f,
-            0xff,
-            0x100,
-            0x101,
-            0x10f,
-            0x8000_0000,
-            0xffff_ffff,
+            0, 1, 2, 3, 4, 7, 8, 0xb, 0xf, 0x1b, 0x40, 0x80, 0x81, 0x83, 0x8b, 0x8f, 0xff, 0x100, 0x101, 0x10f,
+            0x8000_0000, 0xffff_ffff,
         ],
         MODE => &[0, 1, 0x7fff, 0x8000, 0xffff],
         COMMAND => &[
@@ -70,9 +51,9 @@ pub fn edges(offset: u64) -> &'static [u32] {
         ],
         FEATURES_PAGE | ACKED_PAGE | QUEUE | REGION => &[0, 1, 2, 3, 15, 16, 0xff, 0x10000, 0x8000_0000, 0xffff_ffff],
         ACKNOWLEDGE => &[0, 1, 2, 3, 0x8000_0000, 0xffff_ffff],
-        DESCRIPTORS | AVAILABLE | USED => {
-            &[0, 1, 2, 3, 4, 6, 8, 0xc, 0x10, 0x18, 0x1008, 0x1010, 0xfff0, 0x1_0002, 0xffff_fff0, 0xffff_ffff]
-        }
+        DESCRIPTORS | AVAILABLE | USED => &[
+            0, 1, 2, 3, 4, 6, 8, 0xc, 0x10, 0x18, 0x1008, 0x1010, 0xfff0, 0x1_0002, 0xffff_fff0, 0xffff_ffff,
+        ],
         _ => &[0, 1, 2, 0x1000, 0x7fff_ffff, 0x8000_0000, 0xffff_ffff],
     }
 }

@@ -25,7 +25,7 @@ impl Kind {
     }
 }
 
-/// Up to `count` traces of a kind: bench and sweep have an end, and a part of a sweep is spread over the whole of it.
+/// Up to `count` traces of a kind. Bench and sweep have an end.
 pub fn make(kind: Kind, seed: u64, count: usize) -> Box<dyn Iterator<Item = Vec<u8>>> {
     match kind {
         Kind::Bench => Box::new(bench::all().into_iter().take(count).map(|draft| draft.bytes())),

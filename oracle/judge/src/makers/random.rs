@@ -132,8 +132,11 @@ impl Run {
     fn negotiate(&mut self) {
         let page = self.chance.pick(&[0, 1, 1, 2, u32::MAX]);
         let value = self.chance.word();
-        self.draft.set(FEATURES_PAGE, page).read(0x010, 4);
-        self.draft.set(ACKED_PAGE, page).set(ACKED, value);
+        // Unselected pages show what a reset left.
+        if self.chance.percent(60) {
+            self.draft.set(FEATURES_PAGE, page).set(ACKED_PAGE, page);
+        }
+        self.draft.read(0x010, 4).set(ACKED, value);
     }
 
     /// Lays a queue, mostly inside memory and sometimes against its end.

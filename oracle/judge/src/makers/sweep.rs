@@ -36,29 +36,32 @@ const CHUNK: usize = 1_900;
 const ACCESSES: usize = ((NEAR + FAR.len() as u64) * LENGTHS) as usize;
 
 pub struct Sweep {
-    items: Vec<Item>,
+    /// Starts, messages and areas, where each trace has a case of its own.
+    cases: Vec<Item>,
+    /// The accesses of each stage.
+    accesses: Vec<Item>,
 }
 
 impl Sweep {
     pub fn new() -> Self {
-        let mut items = Vec::new();
+        let cases = [start_items(), message_items(), area_items()].concat();
+        let mut accesses = Vec::new();
         for stage in stages() {
-            items.extend(register_items(stage));
+            accesses.extend(register_items(stage));
             for chunk in 0..ACCESSES.div_ceil(CHUNK) {
-                items.extend([Item::Reads { stage, chunk }, Item::Writes { stage, chunk }]);
+                accesses.extend([Item::Reads { stage, chunk }, Item::Writes { stage, chunk }]);
             }
         }
-        items.extend(start_items());
-        items.extend(message_items());
-        items.extend(area_items());
-        Sweep { items }
+        Sweep { cases, accesses }
     }
 
-    /// Up to `count` traces, evenly spread over all.
+    /// Up to `count` traces: the cases first, then accesses, evenly spread over all.
     pub fn spread(self, count: usize) -> impl Iterator<Item = Vec<u8>> {
-        let all = self.items.len();
-        let count = count.min(all);
-        (0..count).map(move |place| self.items[place * all / count].draft().bytes())
+        let cases = self.cases.into_iter().take(count);
+        let all = self.accesses.len();
+        let wanted = (count - cases.len()).min(all);
+        let accesses = (0..wanted).map(move |place| self.accesses[place * all / wanted]);
+        cases.chain(accesses).map(|item| item.draft().bytes())
     }
 }
 
@@ -188,7 +191,7 @@ fn register(stage: Stage, offset: u64, length: u32, value: u32, k: u32) -> Draft
     draft.write(offset, &value.to_le_bytes()[..length as usize], k);
     read_all(&mut draft);
     // Counts only if the write left a queue selected and the device open to it.
-    draft.set(SIZE, 2).set(AVAILABLE, 0x42).set(ACKED, 5);
+    draft.set(SIZE, 2).set(SIZE, 256).set(SIZE, 128).set(AVAILABLE, 0x42).set(ACKED, 5);
     draft.set(QUEUE, 1).set(FEATURES_PAGE, 1).set(ACKED_PAGE, 7).set(REGION, 1);
     read_all(&mut draft);
     draft
