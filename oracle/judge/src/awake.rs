@@ -19,24 +19,17 @@ struct Mutant {
     invisible: Option<String>,
 }
 
-/// A line is `file`, `old`, `new` and perhaps a reason, with a tab between them; `#` begins a comment.
+/// A line is file, old text, new text and perhaps the reason, with tabs between; `#` begins a comment.
 fn table(text: &str) -> Result<Vec<Mutant>> {
-    let lines = text.lines().filter(|line| !line.is_empty() && !line.starts_with('#'));
-    lines
-        .map(|line| match line.split('\t').collect::<Vec<_>>()[..] {
-            [file, old, new] => Ok((file, old, new, None)),
-            [file, old, new, reason] => Ok((file, old, new, Some(reason.into()))),
-            _ => Err(format!("mutants.txt: `{line}` must be FILE, OLD, NEW and perhaps REASON, with tabs between")),
-        })
-        .map(|row| {
-            row.map(|(file, old, new, invisible)| Mutant {
-                file: file.into(),
-                old: old.into(),
-                new: new.into(),
-                invisible,
-            })
-        })
-        .collect()
+    text.lines().filter(|line| !line.is_empty() && !line.starts_with('#')).map(mutant).collect()
+}
+
+fn mutant(line: &str) -> Result<Mutant> {
+    let mut fields = line.split('\t').map(String::from);
+    match (fields.next(), fields.next(), fields.next()) {
+        (Some(file), Some(old), Some(new)) => Ok(Mutant { file, old, new, invisible: fields.next() }),
+        _ => Err(format!("mutants.txt: `{line}` must be FILE, OLD, NEW and perhaps REASON, with tabs between")),
+    }
 }
 
 /// A copy of the workspace and of the Rust, with the traces.

@@ -34,9 +34,9 @@ pub fn configuration(queues: u32, doorbell: bool) -> Configuration {
 
 /// Writes the ladder's values from one rung up to another. The last may start the device, with outcome `k`.
 pub fn climb(draft: &mut Draft, from: usize, to: usize, k: u32) {
-    for rung in from + 1..=to {
-        let k = if rung == 4 { k } else { ALL_ACCEPTED };
-        draft.write(STATUS, &LADDER[rung].to_le_bytes(), k);
+    for value in &LADDER[from + 1..=to] {
+        let k = if *value == LADDER[4] { k } else { ALL_ACCEPTED };
+        draft.write(STATUS, &value.to_le_bytes(), k);
     }
 }
 

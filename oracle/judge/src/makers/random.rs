@@ -182,7 +182,7 @@ impl Run {
                 let queue = self.chance.below(20) as u32;
                 self.draft.set(NOTIFY, queue).set(DOORBELLS + u64::from(queue) * 4, 0).read(NOTIFY, 4);
             }
-            4 | 5 | 6 => self.message(),
+            4..=6 => self.message(),
             7 => self.config(),
             8 => {
                 let region = self.chance.below(10) as u32;
@@ -219,7 +219,7 @@ impl Run {
         let (offset, length) = self.chance.pick(&WRITABLE);
         let value = self.chance.pick(edges(offset));
         match self.chance.below(8) {
-            0 | 1 | 2 => {
+            0..=2 => {
                 let k = self.outcome();
                 self.draft.write(offset, &value.to_le_bytes()[..length as usize], k);
             }
