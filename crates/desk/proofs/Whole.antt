@@ -14,7 +14,7 @@ use Rattle.mmio_state.specs.State.{State}
 use Rattle.mmio_state.specs.Fresh.{freshState, noState}
 use Rattle.mmio_config.specs.declared.Configuration.{Configuration}
 use Rattle.mmio_v2.specs.Fresh.{device, refusal, madeDevice}
-use Rattle.mmio_v2.specs.declared.MadeDevice.{MadeDevice}
+use Rattle.mmio_v2.specs.declared.MmioV2Device.{MmioV2Device}
 use Rattle.runs.specs.Runs.{runFrom}
 use Rattle.history.specs.Run.{next}
 use Rattle.text.specs.Lines.{headingLine, endLine, badLine}
@@ -27,7 +27,7 @@ use Rattle.trace.proofs.Judging.{laid-few, accepted-good, good-accepted}
 use Rattle.play.specs.Log.{logFrom, recordsOf}
 use Rattle.play.specs.Text.{logText, replayText}
 use Rattle.play.specs.declared.Show.{Show}
-use Rattle.desk.specs.Desk.{roomBefore, Parted, mayPlay, stays, Pieced, enough, Replayed}
+use Rattle.desk.specs.Desk.{roomBefore, Parted, mayPlay, Pieced, enough, Begun, Replayed}
 use Rattle.desk.specs.declared.Part.{Part}
 use Rattle.desk.specs.declared.Played.{Played}
 
@@ -56,11 +56,11 @@ module _ (s : List ℕ) (i : ℕ) where
   unfolding mayPlay
   may n e c h = rw e (le-leb i (count s) (omega (arith, c, counted-good s (accepted-good s e))))
 
-module _ (o : Show) (s : List ℕ) (d : State) (i : ℕ) (l : List ℕ) (at : ℕ) where
-  pub pieced-no : mayPlay s i ≡ false → Pieced o s d i l at l (stays d i at)
+module _ (o : Show) (s : List ℕ) (t : Part) (l : List ℕ) where
+  pub pieced-no : mayPlay s (t .next) ≡ false → Pieced o s t l l t
   pieced-no e = record { ran = λ h. absurd (true≢false (sym h ∙ e)); kept = λ h. (refl, refl) }
 
-  pub pieced-yes : (l′ : List ℕ) (r : Part) → mayPlay s i ≡ true → Parted o s d i l at l′ r → Pieced o s d i l at l′ r
+  pub pieced-yes : (l′ : List ℕ) (r : Part) → mayPlay s (t .next) ≡ true → Parted o s (t .device .state) (t .next) l (t .at) l′ r → Pieced o s t l l′ r
   pieced-yes l′ r e p = record { ran = λ h. p; kept = λ h. absurd (true≢false (sym e ∙ h)) }
 
 -- ---- the whole
@@ -74,9 +74,9 @@ unfolding enough
 room-bad s v len e f = rw (ne-eqb (verdictOf s) 0 (λ z. f (e ∙ z)))
 
 -- a device that is made from a configuration without refusal is fresh
-pub made-fresh : (c : Configuration) (m : MadeDevice) → m ≡ madeDevice c → refusal c ≡ 0 → m .device ≡ device (freshState c)
+made-fresh : (c : Configuration) → refusal c ≡ 0 → madeDevice c .device ≡ device (freshState c)
 unfolding madeDevice
-made-fresh c m e z = ap (λ (x : MadeDevice). x .device) e ∙ rw z
+made-fresh c z = rw z
 
 module _ (o : Show) (s l : List ℕ) where
   pub none-told : enough s (length l) ≡ false → Replayed o s l l (record { device = device noState; len = 0; whole = false })
@@ -98,54 +98,61 @@ module _ (o : Show) (s l : List ℕ) where
       }
 
   -- the heading, all records, the end
-  module _ (n a : ℕ) (l₁ l₂ : List ℕ) (d : State) (g : Part) (good : Good s) (fits : enough s (length l) ≡ true) (c : n ≡ counted s)
-      (x : Emitted l 0 (pick (room 64 (length l) 0) headingLine []) l₁ a) (a≤ : a ≤ 64) (y : Parted o s d 0 l₁ a l₂ g)
+  module _ (n : ℕ) (l₁ l₂ : List ℕ) (t g : Part) (good : Good s) (fits : enough s (length l) ≡ true) (c : n ≡ counted s)
+      (x : Begun s l l₁ t) (y : Parted o s (t .device .state) (t .next) l₁ (t .at) l₂ g)
     where
-      long-enough : 128 + 10304 * count s ≤ length l
-      unfolding enough
-      long-enough = leb-true (128 + 10304 * count s) (length l) (rw (good-accepted s good) at fits)
+    long-enough : 128 + 10304 * count s ≤ length l
+    unfolding enough
+    long-enough = leb-true (128 + 10304 * count s) (length l) (rw (good-accepted s good) at fits)
 
-      first : Emitted l 0 headingLine l₁ a
-      first = roomed 64 x (omega (arith, long-enough))
+    first : Emitted l 0 headingLine l₁ (t .at)
+    first = roomed 64 (x .text) (omega (arith, long-enough))
 
-      same-long : length l₂ ≡ length l
-      same-long = long (y .text) ∙ long x
+    same-long : length l₂ ≡ length l
+    same-long = long (y .text) ∙ long (x .text)
 
-      -- every record had room, so all were run
-      pub all-run : g .next ≡ count s
-      all-run = go (eqb (g .next) (count s)) refl
-        where
-          go : (t : Bool) → eqb (g .next) (count s) ≡ t → g .next ≡ count s
-          go true e = eqb-true (g .next) (count s) e
-          go false e = absurd (true≢false (sym there ∙ y .full other))
-            where
-              other : g .next ≡ count s → ⊥
-              other = eqb-false (g .next) (count s) e
+    starts : t .device .state ≡ freshState (blockAt s)
+    starts = ap (λ (v : MmioV2Device). v .state) (x .fresh ∙ made-fresh (blockAt s) (good .config))
 
-              fewer : (g .next ≡ count s → ⊥) → g .next + 1 ≤ count s
-              fewer z = omega (arith, y .upto)
+    -- every record had room, so all were run
+    all-run : g .next ≡ count s
+    all-run = go (eqb (g .next) (count s)) refl
+      where
+        go : (b : Bool) → eqb (g .next) (count s) ≡ b → g .next ≡ count s
+        go true e = eqb-true (g .next) (count s) e
+        go false e = absurd (true≢false (sym there ∙ y .full other))
+          where
+            other : g .next ≡ count s → ⊥
+            other = eqb-false (g .next) (count s) e
 
-              there : roomBefore o s d 0 (length l₁) a (g .next) ≡ true
-              there =
-                  room-left 10304 (length l₁) (a + length (logText o d 0 (logFrom s 0 (g .next - 0))))
-                  (omega (arith, fewer other, long x, long-enough, y .small, y .text .moved, a≤))
+            fewer : (g .next ≡ count s → ⊥) → g .next + 1 ≤ count s
+            fewer z = omega (arith, y .upto)
 
-      pub end-room : g .at + 64 ≤ length l₂
-      end-room = omega (arith, same-long, long-enough, y .small, y .upto, a≤)
+            there : roomBefore o s (t .device .state) (t .next) (length l₁) (t .at) (g .next) ≡ true
+            there =
+                room-left 10304 (length l₁) (t .at + length (logText o (t .device .state) (t .next) (logFrom s (t .next) (g .next - t .next))))
+                (omega (arith, fewer other, long (x .text), long-enough, y .small, y .text .moved, x .small, x .first))
 
-      pub all-told : (k p : ℕ) (l₃ : List ℕ) → d ≡ freshState (blockAt s) → k ≡ n
-          → Emitted l₂ (g .at) (pick (room 64 (length l₂) (g .at)) (endLine k) []) l₃ p → Replayed o s l l₃ (record { device = g .device; len = p; whole = true })
-      unfolding replayText
-      all-told k p l₃ f q z =
-          let v = good-accepted s good in
-          let m : g .next - 0 ≡ count s = omega (arith, all-run) in
-          let j : k ≡ count s = q ∙ c ∙ counted-good s good in
-          record {
-            whole = sym fits;
-            state = rw (fits, v) (y .state ∙ ap (λ (i : ℕ). device (runFrom next d (logFrom s 0 i))) m ∙ ap (λ (u : State). device (runFrom next u (recordsOf s))) f);
-            text =
-                rw (fits, v)
-                (worded (then (then first (y .text)) (roomed 64 z end-room))
-                (ap₂ (λ (i h : ℕ). (headingLine ++ logText o d 0 (logFrom s 0 i)) ++ endLine h) m j
-                ∙ ap (λ (u : State). (headingLine ++ logText o u 0 (recordsOf s)) ++ endLine (count s)) f));
-          }
+    pub end-room : g .at + 64 ≤ length l₂
+    end-room = omega (arith, same-long, long-enough, y .small, y .upto, x .small, x .first)
+
+    pub all-told : (k p : ℕ) (l₃ : List ℕ) → k ≡ n
+        → Emitted l₂ (g .at) (pick (room 64 (length l₂) (g .at)) (endLine k) []) l₃ p → Replayed o s l l₃ (record { device = g .device; len = p; whole = true })
+    unfolding replayText
+    all-told k p l₃ q z =
+        let v = good-accepted s good in
+        let m : g .next - t .next ≡ count s = omega (arith, all-run, x .first) in
+        let j : k ≡ count s = q ∙ c ∙ counted-good s good in
+        record {
+          whole = sym fits;
+          state =
+              rw (fits, v)
+              (y .state
+              ∙ ap (λ (i : ℕ). device (runFrom next (t .device .state) (logFrom s (t .next) i))) m
+              ∙ ap₂ (λ (u : State) (i : ℕ). device (runFrom next u (logFrom s i (count s)))) starts (x .first));
+          text =
+              rw (fits, v)
+              (worded (then (then first (y .text)) (roomed 64 z end-room))
+              (ap₂ (λ (i h : ℕ). (headingLine ++ logText o (t .device .state) (t .next) (logFrom s (t .next) i)) ++ endLine h) m j
+              ∙ ap₂ (λ (u : State) (i : ℕ). (headingLine ++ logText o u i (logFrom s i (count s))) ++ endLine (count s)) starts (x .first)));
+        }

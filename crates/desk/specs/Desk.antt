@@ -4,19 +4,22 @@ use mathlib.Core.Bool.{Bool, true, false}
 use mathlib.Core.Path.{_≡_}
 use mathlib.Core.List.{List, []}
 use Prim.Native.Nat.{ℕ, _+_, _*_, _-_, _≤_, _<_}
-use lib.Dec.{eqb, leb}
+use lib.Dec.{eqb, leb, ltb}
 use lib.ListN.{length}
 use Rattle.words.specs.Pick.{pick}
 use Rattle.words.specs.Actions.{Emitted}
 use Rattle.mmio_state.specs.State.{State}
 use Rattle.mmio_state.specs.Fresh.{noState}
-use Rattle.mmio_v2.specs.Fresh.{device}
+use Rattle.mmio_v2.specs.Fresh.{device, madeDevice}
+use Rattle.mmio_v2.specs.Step.{operated}
 use Rattle.runs.specs.Runs.{runFrom}
 use Rattle.history.specs.Run.{next, run}
 use Rattle.trace.specs.Block.{blockAt}
 use Rattle.trace.specs.Verdict.{count, verdictOf}
-use Rattle.play.specs.Log.{logFrom, recordsOf}
-use Rattle.play.specs.Text.{logText, replayText}
+use Rattle.text.specs.Lines.{headingLine}
+use Rattle.text.specs.Room.{room}
+use Rattle.play.specs.Log.{operationAt, logFrom, recordsOf}
+use Rattle.play.specs.Text.{outcomeText, logText, replayText}
 use Rattle.play.specs.Play.{roomy}
 use Rattle.play.specs.declared.Show.{Show}
 use Rattle.desk.specs.declared.Part.{Part}
@@ -42,15 +45,30 @@ pub record Parted (o : Show) (s : List ℕ) (d : State) (i : ℕ) (l : List ℕ)
 unfoldable pub mayPlay : List ℕ → (i : ℕ) → Bool
 mayPlay s i = pick (eqb (verdictOf s) 0) (leb i (count s)) false
 
-abbrev pub stays : State → (i at : ℕ) → Part
-stays d i at = record { device = device d; next = i; at = at }
-
 -- where they may not, nothing is done
-pub record Pieced (o : Show) (s : List ℕ) (d : State) (i : ℕ) (l : List ℕ) (at : ℕ) (l′ : List ℕ) (r : Part) : Type 0 where
-  pub ran : mayPlay s i ≡ true → Parted o s d i l at l′ r
-  pub kept : mayPlay s i ≡ false → (r ≡ stays d i at) × (l′ ≡ l)
+pub record Pieced (o : Show) (s : List ℕ) (t : Part) (l l′ : List ℕ) (r : Part) : Type 0 where
+  pub ran : mayPlay s (t .next) ≡ true → Parted o s (t .device .state) (t .next) l (t .at) l′ r
+  pub kept : mayPlay s (t .next) ≡ false → (r ≡ t) × (l′ ≡ l)
+
+-- the loop goes on: there is a record more, and room for it
+unfoldable pub goesOn : (next n len at : ℕ) → Bool
+goesOn i n len at = pick (ltb i n) (roomy len at) false
+
+-- one record further
+pub record Advanced (o : Show) (s : List ℕ) (t : Part) (l l′ : List ℕ) (r : Part) : Type 0 where
+  pub moved : r .next ≡ t .next + 1
+  pub state : r .device ≡ device (next (t .device .state) (operationAt s (t .next)))
+  pub text : Emitted l (t .at) (outcomeText o (t .next + 1) (operated (t .device .state) (operationAt s (t .next)))) l′ (r .at)
+  pub small : r .at ≤ t .at + 10304
 
 -- ---- the whole
+
+-- the configuration's device, and the heading where there is room for it
+pub record Begun (s : List ℕ) (l l′ : List ℕ) (r : Part) : Type 0 where
+  pub fresh : r .device ≡ madeDevice (blockAt s) .device
+  pub first : r .next ≡ 0
+  pub text : Emitted l 0 (pick (room 64 (length l) 0) headingLine []) l′ (r .at)
+  pub small : r .at ≤ 64
 
 -- room for the heading or the one line of a bad trace, and for the end; 10,304 bytes for each record
 unfoldable pub enough : List ℕ → (len : ℕ) → Bool

@@ -9,7 +9,7 @@ ghost use Rattle.mmio_v2.specs.Fresh.{device};
 ghost use Rattle.trace.specs.Verdict.{Good, count, recordOf};
 ghost use Rattle.play.specs.Log.{operationAt};
 ghost use Rattle.play.specs.Play.{Runs};
-ghost use Rattle.desk.specs.Desk.{Parted, Pieced, Replayed, enough};
+ghost use Rattle.desk.specs.Desk.{Advanced, Begun, Parted, Pieced, Replayed, enough, goesOn};
 use mmio_state::MmioV2DeviceState;
 use mmio_v2::MmioV2Device;
 use play::RECORD_ROOM;
@@ -106,66 +106,71 @@ fn run_at(
 
 // ---- some records
 
-fn run_part(
-    d: MmioV2Device,
-    s: &[u8],
-    n: usize,
-    from: usize,
-    show: Show,
-    out: &mut [u8],
-    at: usize,
-) -> Part
-    requires { ⌜ Good (now s) × (n ≡ count (now s)) × (from ≤ n) ⌝ }
-    ensures { λ r. ⌜ Parted show (now (s .entry)) (d .state) from (now (out .entry)) at (now (out .exit)) r ⌝ }
+fn advance(t: Part, s: &[u8], n: usize, show: Show, out: &mut [u8]) -> Part
+    requires { ⌜ Good (now s) × (n ≡ count (now s)) × (t .next < n) × (t .at + 10304 ≤ length (now out)) ⌝ }
+    ensures { λ r. ⌜ Advanced show (now (s .entry)) t (now (out .entry)) (now (out .exit)) r ⌝ }
 {
-    let mut e = d;
-    let mut p = at;
-    let mut i = from;
-    while i < n {
-        if text::has_room(RECORD_ROOM, out.len(), p) {} else {
-            return Part {
-                device: e,
-                next: i,
-                at: p,
-            };
-        }
-        let g = run_at(e, s, n, i, show, out, p);
-        let f = g.device;
-        e = f;
-        p = g.at;
-        i = i + 1;
-    }
+    let d = t.device;
+    let g = run_at(d, s, n, t.next, show, out, t.at);
+    let e = g.device;
     Part {
         device: e,
-        next: i,
-        at: p,
+        next: t.next + 1,
+        at: g.at,
     }
 }
 
-/// Runs the records of a good trace from record `from` on, while `RECORD_ROOM` bytes are left for each; a device that has run
-/// those before is the caller's to keep. Of a bad trace, or past its end, nothing is run.
-pub fn piece(d: MmioV2Device, s: &[u8], from: usize, show: Show, out: &mut [u8], at: usize) -> Part
-    ensures { λ r. ⌜ Pieced show (now (s .entry)) (d .state) from (now (out .entry)) at (now (out .exit)) r ⌝ }
+fn goes_on(next: usize, n: usize, len: usize, at: usize) -> bool
+    ensures { λ r. ⌜ r ≡ goesOn next n len at ⌝ }
+{
+    if next < n {
+        return text::has_room(RECORD_ROOM, len, at);
+    }
+    false
+}
+
+fn run_part(t: Part, s: &[u8], n: usize, show: Show, out: &mut [u8]) -> Part
+    requires { ⌜ Good (now s) × (n ≡ count (now s)) × (t .next ≤ n) ⌝ }
+    ensures { λ r. ⌜ Parted show (now (s .entry)) (t .device .state) (t .next) (now (out .entry)) (t .at) (now (out .exit)) r ⌝ }
+{
+    let mut u = t;
+    while goes_on(u.next, n, out.len(), u.at) {
+        u = advance(u, s, n, show, out);
+    }
+    u
+}
+
+/// Runs the records of a good trace from where t has come to, while `RECORD_ROOM` bytes are left for each. Of a bad trace, or
+/// past its end, nothing is run.
+pub fn piece(t: Part, s: &[u8], show: Show, out: &mut [u8]) -> Part
+    ensures { λ r. ⌜ Pieced show (now (s .entry)) t (now (out .entry)) (now (out .exit)) r ⌝ }
 {
     if trace::verdict(s) == 0 {
         let n = trace::count(s);
-        if from <= n {
-            return run_part(d, s, n, from, show, out, at);
+        if t.next <= n {
+            return run_part(t, s, n, show, out);
         }
-        return Part {
-            device: d,
-            next: from,
-            at,
-        };
+        return t;
     }
-    Part {
-        device: d,
-        next: from,
-        at,
-    }
+    t
 }
 
 // ---- the whole
+
+/// A device of the trace's configuration, before its first record, and the heading in the buffer's front. The configuration
+/// of a bad trace gives a device of zeros.
+pub fn begin(s: &[u8], out: &mut [u8]) -> Part
+    ensures { λ r. ⌜ Begun (now (s .entry)) (now (out .entry)) (now (out .exit)) r ⌝ }
+{
+    let m = MmioV2Device::new(trace::configuration(s));
+    let at = text::heading(out, 0);
+    let d = m.device;
+    Part {
+        device: d,
+        next: 0,
+        at,
+    }
+}
 
 fn no_device() -> MmioV2Device
     ensures { λ r. ⌜ r ≡ device noState ⌝ }
@@ -213,14 +218,12 @@ fn run_all(s: &[u8], show: Show, out: &mut [u8]) -> Played
     ensures { λ r. ⌜ Replayed show (now (s .entry)) (now (out .entry)) (now (out .exit)) r ⌝ }
 {
     let n = trace::count(s);
-    let m = MmioV2Device::new(trace::configuration(s));
-    let d = m.device;
-    let a = text::heading(out, 0);
-    let g = run_part(d, s, n, 0, show, out, a);
-    let e = g.device;
-    let p = text::end(out, g.at, as_u32(n));
+    let t = begin(s, out);
+    let u = run_part(t, s, n, show, out);
+    let p = text::end(out, u.at, as_u32(n));
+    let d = u.device;
     Played {
-        device: e,
+        device: d,
         len: p,
         whole: true,
     }

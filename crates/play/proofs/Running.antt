@@ -13,11 +13,12 @@ use Rattle.words.specs.Pick.{pick}
 use Rattle.words.specs.Actions.{Emitted, wordsOfAll}
 use Rattle.words.proofs.Actions.{still, worded}
 use Rattle.tape.specs.Play.{laid}
-use Rattle.mmio_state.specs.State.{State}
+use Rattle.mmio_state.specs.State.{State, queuesIn}
 use Rattle.mmio_v2.specs.Fresh.{device}
 use Rattle.mmio_v2.specs.Operation.{Operation, Read, Write, Raise}
 use Rattle.mmio_v2.specs.Step.{operated, step, answerOf}
 use Rattle.mmio_v2.specs.declared.Answer.{Answer}
+use Rattle.mmio_v2.specs.declared.MmioV2Device.{MmioV2Device}
 use Rattle.mmio_claims.proofs.Bounds.{done-from, at-most}
 use Rattle.listing.specs.Listing.{wordsText, actionsText}
 use Rattle.listing.proofs.Back.{words-text}
@@ -26,7 +27,7 @@ use Rattle.trace.specs.Records.{kindGood}
 use Rattle.trace.specs.declared.Record.{Record}
 use Rattle.play.specs.Log.{operationOf, mayRun}
 use Rattle.play.specs.Text.{told}
-use Rattle.play.specs.Play.{Runs, runs}
+use Rattle.play.specs.Play.{Runs, Told, runs}
 use Rattle.play.specs.declared.Show.{Show}
 use Rattle.play.specs.declared.Ran.{Ran}
 
@@ -55,17 +56,19 @@ module _ (s : State) (op : Operation) (w w′ : List ℕ) (a : Answer) (full : 3
     lines : wordsText w′ (a .count) ≡ actionsText (operated s op .actions)
     lines = rw (counted, written) (words-text w (operated s op .actions) (omega (arith, most)))
 
-    -- its text was told, so it has run
-    pub has-run : (o : Show) (n : ℕ) (reply l : List ℕ) (at : ℕ) (l′ : List ℕ) (p : ℕ) → reply ≡ operated s op .reply
-        → Emitted l at (told o n (a .device .state) reply (a .count) (wordsText w′ (a .count))) l′ p → p ≤ at + 10304
-        → Runs true o n s op l at l′ (record { device = a .device; at = p; ran = true })
-    has-run o n reply l at l′ p r t h =
+      -- it is told, so it has run
+    pub has-run : (o : Show) (n : ℕ) (reply l : List ℕ) (at : ℕ) (l′ : List ℕ) (r : Ran) → reply ≡ operated s op .reply
+        → Told o n a reply w′ l at l′ r → Runs true o n s op l at l′ r
+    has-run o n reply l at l′ r e′ t =
         let d : a .device ≡ device (operated s op .state) = ap (λ (x : Answer). x .device) plain in
         record {
-          ran = refl;
-          state = d;
-          text = worded t (rw (lines, counted, r) (ap (λ x. told o n (x .state) (operated s op .reply) (length (operated s op .actions)) (actionsText (operated s op .actions))) d));
-          small = h;
+          ran = t .ran;
+          state = t .device-is ∙ d;
+          text =
+              worded (t .text)
+              (rw (lines, counted, e′)
+              (ap (λ (x : MmioV2Device). told o n (x .state .hot .status) (operated s op .reply) (length (operated s op .actions)) (actionsText (operated s op .actions)) (x .state .queues) (queuesIn (x .state))) d));
+          small = t .small;
         }
 
 -- ---- one record

@@ -6,6 +6,7 @@ use Prim.Native.Nat.{ℕ, _+_}
 use lib.Dec.{eqb}
 use lib.ListN.{length}
 use Rattle.words.specs.Pick.{pick}
+use Rattle.virtq.specs.declared.Queue.{Queue}
 use Rattle.mmio_state.specs.State.{State, queuesIn}
 use Rattle.mmio_state.specs.Fresh.{freshState}
 use Rattle.mmio_v2.specs.Operation.{Operation}
@@ -19,15 +20,16 @@ use Rattle.trace.specs.Verdict.{count, verdictOf}
 use Rattle.play.specs.Log.{recordsOf}
 use Rattle.play.specs.declared.Show.{Show}
 
--- of a state, a reply, and the number and the lines of the actions
-unfoldable pub told : Show → (number : ℕ) → State → (reply : List ℕ) → (n : ℕ) → (actions : List ℕ) → List ℕ
-told o number s reply n actions =
-    (recordLine number (s .hot .status) reply n ++ pick (o .actions) actions [])
-    ++ pick (o .fields) (queuesText (s .queues) (queuesIn s)) []
+-- of a status, a reply, the number and the lines of the actions, and the first m queues of a table
+unfoldable pub told : Show → (number status : ℕ) → (reply : List ℕ) → (n : ℕ) → (actions : List ℕ) → List Queue → (m : ℕ) → List ℕ
+told o number status reply n actions qs m =
+    (recordLine number status reply n ++ pick (o .actions) actions []) ++ pick (o .fields) (queuesText qs m) []
 
 -- of what comes of an operation
 abbrev pub outcomeText : Show → (number : ℕ) → Outcome → List ℕ
-outcomeText o number r = told o number (r .state) (r .reply) (length (r .actions)) (actionsText (r .actions))
+outcomeText o number r =
+    told o number (r .state .hot .status) (r .reply) (length (r .actions)) (actionsText (r .actions)) (r .state .queues)
+    (queuesIn (r .state))
 
 -- of a log that begins at a state, after n records
 unfoldable pub logText : Show → State → (n : ℕ) → List Operation → List ℕ

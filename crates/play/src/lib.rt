@@ -12,9 +12,9 @@ ghost use Rattle.listing.specs.Listing.{queuesText, wordsText};
 ghost use Rattle.mmio_tables.specs.Tables.{counted};
 ghost use Rattle.play.specs.Log.{mayRun, operationOf};
 ghost use Rattle.play.specs.Text.{told};
-ghost use Rattle.play.specs.Play.{Runs, runs};
+ghost use Rattle.play.specs.Play.{Runs, Told, runs};
 use mmio_state::ACTION_WORDS;
-use mmio_state::MmioV2DeviceState;
+use mmio_v2::Answer;
 use mmio_v2::MmioV2Device;
 use trace::MAX_DATA;
 use trace::Record;
@@ -66,25 +66,45 @@ fn tell(
     at: usize,
     show: Show,
     number: u32,
-    s: MmioV2DeviceState,
+    status: u32,
     reply: &[u8],
     w: &[u64],
     n: usize,
+    queues: [Queue; MAX_QUEUES],
+    m: u32,
 ) -> usize
-    requires { ⌜ (length (now reply) ≤ 8) × (n ≤ 64) × (5 * n ≤ length (now w)) × (at + 10304 ≤ length (now out)) ⌝ }
-    ensures { λ r. ⌜ Emitted (now (out .entry)) at (told show number s (now (reply .entry)) n (wordsText (now (w .entry)) n)) (now (out .exit)) r ⌝ }
+    requires { ⌜ (length (now reply) ≤ 8) × (n ≤ 64) × (5 * n ≤ length (now w)) × (m ≤ 16) × (at + 10304 ≤ length (now out)) ⌝ }
+    ensures { λ r. ⌜ Emitted (now (out .entry)) at (told show number status (now (reply .entry)) n (wordsText (now (w .entry)) n) queues m) (now (out .exit)) r ⌝ }
     ensures { λ r. ⌜ r ≤ at + 10304 ⌝ }
 {
-    let a = text::line(out, at, number, s.hot.status, reply, n);
+    let a = text::line(out, at, number, status, reply, n);
     let b = actions_if(out, a, show.actions, w, n);
-    let queues = s.queues;
-    queues_if(
-        out,
-        b,
-        show.fields,
-        queues,
-        mmio_tables::queues_in(s.config.count),
-    )
+    queues_if(out, b, show.fields, queues, m)
+}
+
+// The text of an answer, if these are its reply and its action words.
+fn tell_answer(
+    a: Answer,
+    reply: &[u8],
+    w: &[u64],
+    number: u32,
+    show: Show,
+    out: &mut [u8],
+    at: usize,
+) -> Ran
+    requires { ⌜ (length (now reply) ≤ 8) × (a .count ≤ 64) × (5 * a .count ≤ length (now w)) × (at + 10304 ≤ length (now out)) ⌝ }
+    ensures { λ r. ⌜ Told show number a (now (reply .entry)) (now (w .entry)) (now (out .entry)) at (now (out .exit)) r ⌝ }
+{
+    let queues = a.device.state.queues;
+    let m = mmio_tables::queues_in(a.device.state.config.count);
+    let status = a.device.state.hot.status;
+    let p = tell(out, at, show, number, status, reply, w, a.count, queues, m);
+    let d = a.device;
+    Ran {
+        device: d,
+        at: p,
+        ran: true,
+    }
 }
 
 // ---- the three kinds
@@ -122,14 +142,7 @@ fn run_read(
     let m = as_usize(len);
     let a = d.read(k, offset, &mut reply[..m], &mut w);
     let n = a.reply;
-    let e = a.device;
-    let s = e.state;
-    let p = tell(out, at, show, number, s, &reply[..n], &w, a.count);
-    Ran {
-        device: e,
-        at: p,
-        ran: true,
-    }
+    tell_answer(a, &reply[..n], &w, number, show, out, at)
 }
 
 fn run_write(
@@ -148,14 +161,7 @@ fn run_write(
     let none = [0u8; 0];
     let mut w = word_space();
     let a = d.write(k, offset, bytes, &mut w);
-    let e = a.device;
-    let s = e.state;
-    let p = tell(out, at, show, number, s, &none, &w, a.count);
-    Ran {
-        device: e,
-        at: p,
-        ran: true,
-    }
+    tell_answer(a, &none, &w, number, show, out, at)
 }
 
 fn run_raise(d: MmioV2Device, number: u32, bits: u32, show: Show, out: &mut [u8], at: usize) -> Ran
@@ -165,14 +171,7 @@ fn run_raise(d: MmioV2Device, number: u32, bits: u32, show: Show, out: &mut [u8]
     let none = [0u8; 0];
     let mut w = word_space();
     let a = d.raise(bits, &mut w);
-    let e = a.device;
-    let s = e.state;
-    let p = tell(out, at, show, number, s, &none, &w, a.count);
-    Ran {
-        device: e,
-        at: p,
-        ran: true,
-    }
+    tell_answer(a, &none, &w, number, show, out, at)
 }
 
 // ---- one record

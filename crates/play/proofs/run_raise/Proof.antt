@@ -15,22 +15,22 @@ slice-aggregate-raise c = search needs
 raise-requires : tie.Need-raise-requires
 raise-requires c κs = search needs
 
-slice-aggregate-tell : tie.Need-slice-aggregate-tell
-slice-aggregate-tell c = search needs
+slice-aggregate-tell-answer : tie.Need-slice-aggregate-tell-answer
+slice-aggregate-tell-answer c = search needs
 
-slice-aggregate-tell-2 : tie.Need-slice-aggregate-tell-2
-slice-aggregate-tell-2 c = search needs
+slice-aggregate-tell-answer-2 : tie.Need-slice-aggregate-tell-answer-2
+slice-aggregate-tell-answer-2 c = search needs
 
-tell-requires : tie.Need-tell-requires
-tell-requires c κs = let a = c .before .before .before .before .before .before .before .before .before .before .args in
-    (omega arith, few (a .d .state) (Raise (a .bits)) (c .before .before .before .before .before .before .before .before .word-space .result) _ (c .before .before .before .before .before .before .raise .result) (omega arith) (c .before .before .before .before .before .before .raise .ensures .0) (c .before .before .before .before .before .before .raise .ensures .1), words-enough (a .d .state) (Raise (a .bits)) (c .before .before .before .before .before .before .before .before .word-space .result) _ (c .before .before .before .before .before .before .raise .result) (omega arith) (c .before .before .before .before .before .before .raise .ensures .0) (c .before .before .before .before .before .before .raise .ensures .1), c .before .before .before .before .before .before .before .before .before .before .pre)
+tell-answer-requires : tie.Need-tell-answer-requires
+tell-answer-requires c κs = let a = c .before .before .before .before .before .before .before .before .args in
+    (omega arith, few (a .d .state) (Raise (a .bits)) (c .before .before .before .before .before .before .word-space .result) _ (c .before .before .before .before .raise .result) (omega arith) (c .before .before .before .before .raise .ensures .0) (c .before .before .before .before .raise .ensures .1), words-enough (a .d .state) (Raise (a .bits)) (c .before .before .before .before .before .before .word-space .result) _ (c .before .before .before .before .raise .result) (omega arith) (c .before .before .before .before .raise .ensures .0) (c .before .before .before .before .raise .ensures .1), c .before .before .before .before .before .before .before .before .pre)
 
 same-length : tie.Need-same-length
 same-length c = search needs
 
 returns : tie.Need-returns
-returns c = let a = c .before .before .before .before .before .before .before .before .before .before .before .before .before .args in
-    has-run (a .d .state) (Raise (a .bits)) (c .before .before .before .before .before .before .before .before .before .before .before .word-space .result) _ (c .before .before .before .before .before .before .before .before .before .raise .result) (omega arith) (c .before .before .before .before .before .before .before .before .before .raise .ensures .0) (c .before .before .before .before .before .before .before .before .before .raise .ensures .1) _ _ _ _ _ _ _ refl (c .before .before .tell .ensures .0) (c .before .before .tell .ensures .1)
+returns c = let a = c .before .before .before .before .before .before .before .before .before .before .before .args in
+    has-run (a .d .state) (Raise (a .bits)) (c .before .before .before .before .before .before .before .before .before .word-space .result) _ (c .before .before .before .before .before .before .before .raise .result) (omega (arith, c .before .before .before .before .before .before .before .before .before .word-space .ok)) (c .before .before .before .before .before .before .before .raise .ensures .0) (c .before .before .before .before .before .before .before .raise .ensures .1) _ _ _ _ _ _ _ refl (c .before .before .tell-answer .ensures)
 
 pub run-raise-spec : {M : Type 1} → statement M
 run-raise-spec =
@@ -39,8 +39,8 @@ run-raise-spec =
     word-space-requires
     slice-aggregate-raise
     raise-requires
-    slice-aggregate-tell
-    slice-aggregate-tell-2
-    tell-requires
+    slice-aggregate-tell-answer
+    slice-aggregate-tell-answer-2
+    tell-answer-requires
     same-length
     returns)
