@@ -4,7 +4,6 @@
 use libc::STDERR_FILENO;
 use libc::STDIN_FILENO;
 use libc::STDOUT_FILENO;
-use mmio_v2::MmioV2Device;
 use play::Show;
 use text::LINE_ROOM;
 use trace::MAX_RECORDS;
@@ -49,22 +48,16 @@ fn finish(out: &mut [u8], at: usize, n: u32) {
 // turns for as many as a trace can have.
 fn run(s: &[u8], show: Show, out: &mut [u8]) {
     let count = trace::count(s);
-    let made = MmioV2Device::new(trace::configuration(s));
-    let mut d = made.device;
-    let mut at = text::heading(out, 0);
-    let mut next = 0usize;
+    let mut t = desk::begin(s, out);
     let mut turns = MAX_RECORDS + 1;
     while 0 < turns {
-        let p = desk::piece(d, s, next, show, out, at);
-        if p.next == count {
-            finish(out, p.at, as_u32(count));
+        t = desk::piece(t, s, show, out);
+        if t.next == count {
+            finish(out, t.at, as_u32(count));
             return;
         }
-        put(out, p.at);
-        let e = p.device;
-        d = e;
-        next = p.next;
-        at = 0;
+        put(out, t.at);
+        t.at = 0;
         turns = turns - 1;
     }
 }
