@@ -1,0 +1,1 @@
+-- The walks of the exports behind a lent device, and what each promise determines.

@@ -1,0 +1,92 @@
+//! The device for C and Rust to link. `new` and the questions go by value; an access and a raise go behind a lent device,
+//! with the promises of `MmioV2Device`'s own methods, and take the short way where that is enough.
+
+ghost use mathlib.Core.Path.{_≡_};
+ghost use Rattle.mmio_v2.specs.Fresh.{madeDevice};
+ghost use Rattle.dewbracket.specs.Numbers.{askedByNumber, fieldNumbered, heldByNumber, kindNumbered};
+use mmio_config::Configuration;
+use mmio_tables::Kind;
+use mmio_tables::Reply;
+use mmio_tables::Standing;
+use mmio_v2::MadeDevice;
+use mmio_v2::MmioV2Device;
+use tape::Entry;
+use virtq::Field;
+use virtq::QueueIndex;
+
+/// A fresh device, or the number of its refusal, 1 to 6.
+#[no_mangle]
+pub extern "C" fn dewbracket_new(c: Configuration) -> MadeDevice
+    ensures { λ r. ⌜ r ≡ madeDevice c ⌝ }
+{
+    MmioV2Device::new(c)
+}
+
+// ---- the questions, by number: no enum crosses into C
+
+fn field_numbered(n: u32) -> Field
+    ensures { λ r. ⌜ r ≡ fieldNumbered n ⌝ }
+{
+    match n {
+        0 => Field::Size,
+        1 => Field::Ready,
+        2 => Field::DescLow,
+        3 => Field::DescHigh,
+        4 => Field::AvailLow,
+        5 => Field::AvailHigh,
+        6 => Field::UsedLow,
+        _ => Field::UsedHigh,
+    }
+}
+
+fn kind_numbered(n: u32) -> Kind
+    ensures { λ r. ⌜ r ≡ kindNumbered n ⌝ }
+{
+    match n {
+        0 => Kind::Doorbell,
+        _ => Kind::Notify,
+    }
+}
+
+/// The status register.
+#[no_mangle]
+pub extern "C" fn dewbracket_driver_status(d: MmioV2Device) -> u32
+    ensures { λ r. ⌜ r ≡ d .state .hot .status ⌝ }
+{
+    d.driver_status()
+}
+
+/// What a field of a queue holds, the fields numbered from 0 to 7; or refusal 13.
+#[no_mangle]
+pub extern "C" fn dewbracket_field(d: MmioV2Device, queue: u32, field: u32) -> Reply
+    ensures { λ r. ⌜ r ≡ askedByNumber (d .state) queue field ⌝ }
+{
+    if field < 8 {
+        return d.field(QueueIndex(queue), field_numbered(field));
+    }
+    Reply {
+        refusal: 13,
+        value: 0,
+    }
+}
+
+/// Whether a registration of a queue stands, 0 its doorbell and 1 its notify word, and with what; or refusal 13.
+#[no_mangle]
+pub extern "C" fn dewbracket_held_entry(d: MmioV2Device, queue: u32, kind: u32) -> Standing
+    ensures { λ r. ⌜ r ≡ heldByNumber (d .state) queue kind ⌝ }
+{
+    if kind < 2 {
+        return d.held_entry(QueueIndex(queue), kind_numbered(kind));
+    }
+    let entry = Entry {
+        queue: 0,
+        address: 0,
+        width: 0,
+        value: 0,
+    };
+    Standing {
+        refusal: 13,
+        stands: false,
+        entry,
+    }
+}

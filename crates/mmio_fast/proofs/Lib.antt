@@ -1,0 +1,2 @@
+-- That the short ways are the step, and what each promise determines.
+pub mod Same
