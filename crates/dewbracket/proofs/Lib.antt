@@ -1,1 +1,2 @@
--- The walks of the exports behind a lent device, and what each promise determines.
+-- What each promise determines.
+pub mod Determined

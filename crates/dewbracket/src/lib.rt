@@ -1,10 +1,16 @@
-//! The device for C and Rust to link. `new` and the questions go by value; an access and a raise go behind a lent device,
-//! with the promises of `MmioV2Device`'s own methods, and take the short way where that is enough.
+//! The device for C and Rust to link, by value: with the promises of `MmioV2Device`'s own methods.
 
 ghost use mathlib.Core.Path.{_≡_};
+ghost use lib.ListN.{length};
+ghost use Rattle.tape.specs.Play.{laid};
 ghost use Rattle.mmio_v2.specs.Fresh.{madeDevice};
+ghost use Rattle.mmio_v2.specs.Operation.{Raise, Read, Write};
+ghost use Rattle.mmio_v2.specs.Step.{replied, step};
+ghost use Rattle.mmio_fast.specs.Tell.{toldOf, wroteOf};
 ghost use Rattle.dewbracket.specs.Numbers.{askedByNumber, fieldNumbered, heldByNumber, kindNumbered};
 use mmio_config::Configuration;
+use mmio_fast::Told;
+use mmio_fast::Wrote;
 use mmio_tables::Kind;
 use mmio_tables::Reply;
 use mmio_tables::Standing;
@@ -89,4 +95,44 @@ pub extern "C" fn dewbracket_held_entry(d: MmioV2Device, queue: u32, kind: u32) 
         stands: false,
         entry,
     }
+}
+
+// ---- accesses and raises
+
+/// A read of as many bytes as are lent for the reply, as `read`. It changes no device, so none comes back.
+#[no_mangle]
+pub extern "C" fn dewbracket_pass_read(
+    d: MmioV2Device,
+    k: u32,
+    offset: u64,
+    reply: &mut [u8],
+    actions: &mut [u64],
+) -> Told
+    ensures { λ r. ⌜ (r ≡ toldOf (step (length (now (actions .entry))) (d .state) (Read k offset (length (now (reply .entry))))))
+        × (now (reply .exit) ≡ replied (now (reply .entry)) (step (length (now (actions .entry))) (d .state) (Read k offset (length (now (reply .entry))))))
+        × (now (actions .exit) ≡ laid (now (actions .entry)) (step (length (now (actions .entry))) (d .state) (Read k offset (length (now (reply .entry)))) .actions)) ⌝ }
+{
+    mmio_fast::full_read(d, k, offset, reply, actions)
+}
+
+/// A write of these bytes, as `write`.
+#[no_mangle]
+pub extern "C" fn dewbracket_pass_write(
+    d: MmioV2Device,
+    k: u32,
+    offset: u64,
+    bytes: &[u8],
+    actions: &mut [u64],
+) -> Wrote
+    ensures { λ r. ⌜ (r ≡ wroteOf (step (length (now (actions .entry))) (d .state) (Write k offset (now (bytes .entry))))) × (now (actions .exit) ≡ laid (now (actions .entry)) (step (length (now (actions .entry))) (d .state) (Write k offset (now (bytes .entry))) .actions)) ⌝ }
+{
+    mmio_fast::full_write(d, k, offset, bytes, actions)
+}
+
+/// The given interrupt bits are set, as `raise`.
+#[no_mangle]
+pub extern "C" fn dewbracket_pass_raise(d: MmioV2Device, bits: u32, actions: &mut [u64]) -> Wrote
+    ensures { λ r. ⌜ (r ≡ wroteOf (step (length (now (actions .entry))) (d .state) (Raise bits))) × (now (actions .exit) ≡ laid (now (actions .entry)) (step (length (now (actions .entry))) (d .state) (Raise bits) .actions)) ⌝ }
+{
+    mmio_fast::full_raise(d, bits, actions)
 }

@@ -1,6 +1,6 @@
 -- Where a short way is done it is the step: the same state, reply and actions. A raise's is the step everywhere.
 use mathlib.Core.Bool.{Bool, true, false, true≢false}
-use mathlib.Core.Path.{_≡_, refl, sym, ap, _∙_}
+use mathlib.Core.Path.{_≡_, refl, sym, ap, ap₂, _∙_}
 use mathlib.Core.List.{List, []}
 use Prim.Native.Nat.{ℕ, _-_, _≤_}
 use borrow.Author.Tests.{eqb-true, le-leb}
@@ -20,9 +20,13 @@ use Rattle.mmio_access.specs.Changes.{withInterrupts}
 use Rattle.mmio_access.specs.Shown.{doorbellWord}
 use Rattle.mmio_v2.specs.Operation.{Operation, Read, Write, Raise}
 use Rattle.mmio_v2.specs.Registers.{shows, wordIf, bytesShown}
-use Rattle.mmio_v2.specs.Step.{Outcome, refusing, operated, step, replied}
+use Rattle.mmio_v2.specs.Step.{Outcome, refusing, operated, step, replied, answerOf}
+use Rattle.mmio_v2.specs.declared.Answer.{Answer}
+use Rattle.mmio_v2.specs.declared.MmioV2Device.{MmioV2Device}
 use Rattle.mmio_fast.specs.Quick.{whenWord, quickWrite, quickRead, quickReady, quickRaise, done, slow, cleared}
-use Rattle.mmio_fast.specs.Tell.{tell, toldOf}
+use Rattle.mmio_fast.specs.Tell.{tell, toldOf, wroteOf}
+use Rattle.mmio_fast.specs.declared.Told.{Told}
+use Rattle.mmio_fast.specs.declared.Wrote.{Wrote}
 use Rattle.mmio_fast.specs.declared.Quick.{Quick}
 use Rattle.mmio_fast.specs.declared.Raised.{Raised}
 
@@ -145,3 +149,29 @@ reply-short w s k o l = by (ltb w roomWords)
     by : (t : Bool) → length (pick t (refusing s) (operated s (Read k o l)) .reply) ≤ 4
     by true = lit≤ tt
     by false = shown-short s (readAt o l)
+
+-- a write has no reply, and a raise has none: what is told of them, from the answer
+abbrev Mute : Operation → Type 0
+Mute op = (w : ℕ) (s : State) → length (step w s op .reply) ≡ 0
+
+pub mute-write : (k o : ℕ) (bs : List ℕ) → Mute (Write k o bs)
+mute-write k o bs w s = by (ltb w roomWords)
+  where
+    by : (t : Bool) → length (pick t (refusing s) (operated s (Write k o bs)) .reply) ≡ 0
+    by true = refl
+    by false = refl
+
+pub mute-raise : (b : ℕ) → Mute (Raise b)
+mute-raise b w s = by (ltb w roomWords)
+  where
+    by : (t : Bool) → length (pick t (refusing s) (operated s (Raise b)) .reply) ≡ 0
+    by true = refl
+    by false = refl
+
+pub wrote-whole : (op : Operation) → Mute op → (w : ℕ) (s : State) (a : Answer) (t : Told) → a ≡ answerOf (step w s op)
+    → t ≡ tell (a .refusal) 0 (a .count) → _≡_ {A = Wrote} (record { told = t; device = a .device }) (wroteOf (step w s op))
+wrote-whole op mute w s a t e f =
+    ap₂ (λ (x : Told) (y : MmioV2Device). record { told = x; device = y })
+    (f ∙ ap (λ (z : Answer). tell (z .refusal) 0 (z .count)) e
+    ∙ ap (λ (n : ℕ). tell (step w s op .refusal) n (length (step w s op .actions))) (sym (mute w s)))
+    (ap (λ (z : Answer). z .device) e)

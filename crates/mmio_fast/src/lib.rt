@@ -4,13 +4,13 @@
 
 ghost use mathlib.Core.Path.{_≡_};
 ghost use Rattle.words.specs.Bytes.{writeLe};
-ghost use Rattle.mmio_v2.specs.Operation.{Read};
+ghost use Rattle.mmio_v2.specs.Operation.{Raise, Read, Write};
 ghost use Rattle.mmio_v2.specs.Step.{replied, step};
 ghost use Rattle.tape.specs.Play.{laid};
 ghost use Prim.Native.Nat.{_≤_};
 ghost use lib.ListN.{length};
 ghost use Rattle.mmio_fast.specs.Quick.{cleared, done, quickRaise, quickRead, quickReady, quickWrite, slow};
-ghost use Rattle.mmio_fast.specs.Tell.{tell, toldOf};
+ghost use Rattle.mmio_fast.specs.Tell.{tell, toldOf, wroteOf};
 use mmio_hot::Hot;
 use mmio_state::ACTION_WORDS;
 use mmio_v2::MmioV2Device;
@@ -31,6 +31,13 @@ pub struct Told {
     pub refusal: u32,
     pub reply: u32,
     pub count: usize,
+}
+
+/// A write the long way: what is told, and then the device, so that what is told lies in front.
+#[repr(C)]
+pub struct Wrote {
+    pub told: Told,
+    pub device: MmioV2Device,
 }
 
 /// Whether the short way is enough, and if so its one number: a register's word, or the interrupt bits after a write.
@@ -184,4 +191,29 @@ pub fn full_read(
 {
     let a = d.read(k, offset, reply, actions);
     tell(a.refusal, narrow(a.reply), a.count)
+}
+
+/// A write the long way.
+pub fn full_write(d: MmioV2Device, k: u32, offset: u64, bytes: &[u8], actions: &mut [u64]) -> Wrote
+    ensures { λ r. ⌜ (r ≡ wroteOf (step (length (now (actions .entry))) (d .state) (Write k offset (now (bytes .entry)))))
+        × (now (actions .exit) ≡ laid (now (actions .entry)) (step (length (now (actions .entry))) (d .state) (Write k offset (now (bytes .entry))) .actions)) ⌝ }
+{
+    let a = d.write(k, offset, bytes, actions);
+    let device = a.device;
+    Wrote {
+        told: tell(a.refusal, 0, a.count),
+        device,
+    }
+}
+
+/// A raise the long way.
+pub fn full_raise(d: MmioV2Device, bits: u32, actions: &mut [u64]) -> Wrote
+    ensures { λ r. ⌜ (r ≡ wroteOf (step (length (now (actions .entry))) (d .state) (Raise bits))) × (now (actions .exit) ≡ laid (now (actions .entry)) (step (length (now (actions .entry))) (d .state) (Raise bits) .actions)) ⌝ }
+{
+    let a = d.raise(bits, actions);
+    let device = a.device;
+    Wrote {
+        told: tell(a.refusal, 0, a.count),
+        device,
+    }
 }
