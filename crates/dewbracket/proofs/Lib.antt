@@ -1,2 +1,5 @@
--- What each promise determines.
-pub mod Determined
+-- The walks of the exports behind a lent device, and what each promise determines.
+pub mod Shape
+pub mod Device
+pub mod Writing
+pub mod Raising

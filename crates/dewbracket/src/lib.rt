@@ -1,16 +1,16 @@
-//! The device for C and Rust to link, by value: with the promises of `MmioV2Device`'s own methods.
+//! The device for C and Rust to link. `new` and the questions go by value; an access and a raise go behind a lent device,
+//! with the promises of `MmioV2Device`'s own methods, and take the short way where that is enough.
 
 ghost use mathlib.Core.Path.{_≡_};
 ghost use lib.ListN.{length};
 ghost use Rattle.tape.specs.Play.{laid};
-ghost use Rattle.mmio_v2.specs.Fresh.{madeDevice};
-ghost use Rattle.mmio_v2.specs.Operation.{Raise, Read, Write};
-ghost use Rattle.mmio_v2.specs.Step.{replied, step};
-ghost use Rattle.mmio_fast.specs.Tell.{toldOf, wroteOf};
+ghost use Rattle.mmio_v2.specs.Fresh.{device, madeDevice};
+ghost use Rattle.mmio_v2.specs.Operation.{Raise, Write};
+ghost use Rattle.mmio_v2.specs.Step.{step};
+ghost use Rattle.mmio_fast.specs.Tell.{toldOf};
 ghost use Rattle.dewbracket.specs.Numbers.{askedByNumber, fieldNumbered, heldByNumber, kindNumbered};
 use mmio_config::Configuration;
 use mmio_fast::Told;
-use mmio_fast::Wrote;
 use mmio_tables::Kind;
 use mmio_tables::Reply;
 use mmio_tables::Standing;
@@ -97,42 +97,43 @@ pub extern "C" fn dewbracket_held_entry(d: MmioV2Device, queue: u32, kind: u32) 
     }
 }
 
-// ---- accesses and raises
-
-/// A read of as many bytes as are lent for the reply, as `read`. It changes no device, so none comes back.
-#[no_mangle]
-pub extern "C" fn dewbracket_pass_read(
-    d: MmioV2Device,
-    k: u32,
-    offset: u64,
-    reply: &mut [u8],
-    actions: &mut [u64],
-) -> Told
-    ensures { λ r. ⌜ (r ≡ toldOf (step (length (now (actions .entry))) (d .state) (Read k offset (length (now (reply .entry))))))
-        × (now (reply .exit) ≡ replied (now (reply .entry)) (step (length (now (actions .entry))) (d .state) (Read k offset (length (now (reply .entry))))))
-        × (now (actions .exit) ≡ laid (now (actions .entry)) (step (length (now (actions .entry))) (d .state) (Read k offset (length (now (reply .entry)))) .actions)) ⌝ }
-{
-    mmio_fast::full_read(d, k, offset, reply, actions)
-}
+// ---- behind a lent device
 
 /// A write of these bytes, as `write`.
 #[no_mangle]
-pub extern "C" fn dewbracket_pass_write(
-    d: MmioV2Device,
+pub extern "C" fn dewbracket_write(
+    dev: &mut MmioV2Device,
     k: u32,
     offset: u64,
     bytes: &[u8],
     actions: &mut [u64],
-) -> Wrote
-    ensures { λ r. ⌜ (r ≡ wroteOf (step (length (now (actions .entry))) (d .state) (Write k offset (now (bytes .entry))))) × (now (actions .exit) ≡ laid (now (actions .entry)) (step (length (now (actions .entry))) (d .state) (Write k offset (now (bytes .entry))) .actions)) ⌝ }
+) -> Told
+    ensures { λ r. ⌜ (now (dev .exit) ≡ device (step (length (now (actions .entry))) (now (dev .entry) .state) (Write k offset (now (bytes .entry))) .state))
+        × (r ≡ toldOf (step (length (now (actions .entry))) (now (dev .entry) .state) (Write k offset (now (bytes .entry)))))
+        × (now (actions .exit) ≡ laid (now (actions .entry)) (step (length (now (actions .entry))) (now (dev .entry) .state) (Write k offset (now (bytes .entry))) .actions)) ⌝ }
 {
-    mmio_fast::full_write(d, k, offset, bytes, actions)
+    let quick = mmio_fast::quick_write(dev.state.hot, offset, bytes, actions.len());
+    if quick.done {
+        dev.state.hot.interrupts = quick.value;
+        return Told {
+            refusal: 0,
+            reply: 0,
+            count: 0,
+        };
+    }
+    let wrote = mmio_fast::full_write(*dev, k, offset, bytes, actions);
+    *dev = wrote.device;
+    wrote.told
 }
 
 /// The given interrupt bits are set, as `raise`.
 #[no_mangle]
-pub extern "C" fn dewbracket_pass_raise(d: MmioV2Device, bits: u32, actions: &mut [u64]) -> Wrote
-    ensures { λ r. ⌜ (r ≡ wroteOf (step (length (now (actions .entry))) (d .state) (Raise bits))) × (now (actions .exit) ≡ laid (now (actions .entry)) (step (length (now (actions .entry))) (d .state) (Raise bits) .actions)) ⌝ }
+pub extern "C" fn dewbracket_raise(dev: &mut MmioV2Device, bits: u32, actions: &mut [u64]) -> Told
+    ensures { λ r. ⌜ (now (dev .exit) ≡ device (step (length (now (actions .entry))) (now (dev .entry) .state) (Raise bits) .state))
+        × (r ≡ toldOf (step (length (now (actions .entry))) (now (dev .entry) .state) (Raise bits)))
+        × (now (actions .exit) ≡ laid (now (actions .entry)) (step (length (now (actions .entry))) (now (dev .entry) .state) (Raise bits) .actions)) ⌝ }
 {
-    mmio_fast::full_raise(d, bits, actions)
+    let raised = mmio_fast::quick_raise(dev.state.hot, bits, actions.len());
+    dev.state.hot.interrupts = raised.bits;
+    raised.told
 }
