@@ -3,3 +3,4 @@ pub mod Shape
 pub mod Device
 pub mod Writing
 pub mod Raising
+pub mod Reading

@@ -206,7 +206,7 @@ module _ (L : Lent) (L′ : shape.Laws L) where
             land ! (from ! (stop !)) (init ! 10 refl (LL.lawful Z.the-type Z′.the-laws 𝓤 H A W .typed r _ is .0)) $ rewrite ! 10 (λ (u : Val). ‵ (fat fullShare Z′.mir l₄ 0 u)) (ap only (LL.tells Z.the-type Z′.the-laws r _ is)) refl $
             assigns ! (of-opd ! (load ! (from ! (fld ! refl (stop !))) (look-in ! 10 (sub ! 0 refl (whole !))))) (from ! (hop ! (look ! 16 refl) (fld ! refl (fld ! refl (fld ! refl (stop !)))))) (store-in ! 0 (sub ! 1 refl (sub ! 0 refl (sub ! 0 refl (whole !)))) (tt, record { fits = bits-fit r _ is })) $
             assigns ! (of-opd ! (load ! (from ! (fld ! refl (stop !))) (look-in ! 10 (sub ! 1 refl (whole !))))) (from ! (stop !)) (init ! 18 refl (LL.lawful K.the-type K′.the-laws 𝓤 H A W .typed (r .told) _ (told-is r _ is) .0)) $
-            rewrite ! 0 (λ (u : Hot). ‵ (fat fullShare Dm b o (vstruct (vcons (vstruct (vcons (LL.val O.the-type O′.the-laws u) (L .others h))) vnil)))) (sym (L′ .bits-hot h (r .bits))) refl $ rewrite ! 0 (λ (u : Vals). ‵ (fat fullShare Dm b o (vstruct (vcons (vstruct (vcons (LL.val O.the-type O′.the-laws (L .hot (L .bits h (r .bits)))) u)) vnil)))) (sym (L′ .bits-others h (r .bits))) refl $
+            rewrite ! 0 (λ (u : Hot). ‵ (fat fullShare Dm b o (vstruct (vcons (vstruct (vcons (LL.val O.the-type O′.the-laws u) (shape.others L h))) vnil)))) (sym (L′ .bits-hot h (r .bits))) refl $ rewrite ! 0 (λ (u : Vals). ‵ (fat fullShare Dm b o (vstruct (vcons (vstruct (vcons (LL.val O.the-type O′.the-laws (L .hot (L .bits h (r .bits)))) u)) vnil)))) (sym (L′ .bits-others h (r .bits))) refl $
             owned ! D (Is D) (L′ .makes 𝓤 H A) (L .bits h (r .bits)) _ (L′ .bits-is h (r .bits) (bits-fit r _ is) was) $ move ! (1 ∷ 0 ∷ 2 ∷ 3 ∷ 4 ∷ []) $ use1 W (‵ (fat fullShare (rawTy Dm) b o (val (L .bits h (r .bits))))) (W .laws .at-raw fullShare Dm b o _) $ closes ! tt D (L .bits h (r .bits)) (vals (L .bits h (r .bits))) b o $
             returns ! (look ! 17 refl) $ forget ! 5 refl $ forget ! 7 refl $ forget ! 9 refl $ forget ! 11 refl $ forget ! 13 refl $ forget ! 15 refl $ forget ! 17 refl $
             move ! (17 ∷ 18 ∷ []) $ free1 ! $ move ! (15 ∷ 16 ∷ []) $ free1 ! $ move ! (13 ∷ 14 ∷ []) $ free1 ! $ move ! (11 ∷ 12 ∷ []) $ free1 ! $ move ! (9 ∷ 10 ∷ []) $ free1 ! $ move ! (7 ∷ 8 ∷ []) $ free1 ! $ move ! (5 ∷ 6 ∷ []) $ free1 ! $ free0 ! $

@@ -262,7 +262,7 @@ module _ (L : Lent) (L′ : shape.Laws L) (R : Wrote L) (R′ : shape.Wrote-laws
             first ! $ branches ! (load ! (from ! (stop !)) (look ! 14 refl))
             (λ done-so. assigns ! (of-opd ! (load ! (from ! (fld ! refl (stop !))) (look-in ! 22 (sub ! 0 refl (whole !))))) (from ! (hop ! (look ! 32 refl) (fld ! refl (fld ! refl (fld ! refl (stop !)))))) (store-in ! 2 (sub ! 1 refl (sub ! 0 refl (sub ! 0 refl (whole !)))) (tt, record { fits = value-fits r _ is })) $
             assigns ! (agg ! (and-then ! (lit ! tt) (and-then ! (lit ! tt) (and-then ! (lit ! tt) (no-more !))))) (from ! (stop !)) (init ! 34 refl (LL.lawful K.the-type K′.the-laws 𝓤 H A W .typed (tell 0 0 0) _ (telling 0 0 0 (lit< tt) (lit< tt) (lit< tt)) .0)) $
-            rewrite ! 2 (λ (u : Hot). ‵ (fat fullShare Dm b o (vstruct (vcons (vstruct (vcons (LL.val O.the-type O′.the-laws u) (L .others h))) vnil)))) (sym (L′ .bits-hot h (r .value))) refl $ rewrite ! 2 (λ (u : Vals). ‵ (fat fullShare Dm b o (vstruct (vcons (vstruct (vcons (LL.val O.the-type O′.the-laws (L .hot (L .bits h (r .value)))) u)) vnil)))) (sym (L′ .bits-others h (r .value))) refl $
+            rewrite ! 2 (λ (u : Hot). ‵ (fat fullShare Dm b o (vstruct (vcons (vstruct (vcons (LL.val O.the-type O′.the-laws u) (shape.others L h))) vnil)))) (sym (L′ .bits-hot h (r .value))) refl $ rewrite ! 2 (λ (u : Vals). ‵ (fat fullShare Dm b o (vstruct (vcons (vstruct (vcons (LL.val O.the-type O′.the-laws (L .hot (L .bits h (r .value)))) u)) vnil)))) (sym (L′ .bits-others h (r .value))) refl $
             owned ! D (Is D) (L′ .makes 𝓤 H A) (L .bits h (r .value)) _ (L′ .bits-is h (r .value) (value-fits r _ is) was) $ move ! (3 ∷ 0 ∷ 4 ∷ 5 ∷ 6 ∷ []) $ use1 W (‵ (fat fullShare (rawTy Dm) b o (val (L .bits h (r .value))))) (W .laws .at-raw fullShare Dm b o _) $ closes ! tt D (L .bits h (r .value)) (vals (L .bits h (r .value))) b o $
             -- [obs; bor; κ; κ′; bytes; actions; κ″]
             returns-within ! Post refl (look ! 33 refl) $ forget ! 13 refl $ forget ! 15 refl $ forget ! 17 refl $ forget ! 21 refl $ forget ! 23 refl $ forget ! 25 refl $ forget ! 27 refl $ forget ! 29 refl $ forget ! 31 refl $ forget ! 33 refl $

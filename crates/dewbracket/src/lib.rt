@@ -5,8 +5,8 @@ ghost use mathlib.Core.Path.{_≡_};
 ghost use lib.ListN.{length};
 ghost use Rattle.tape.specs.Play.{laid};
 ghost use Rattle.mmio_v2.specs.Fresh.{device, madeDevice};
-ghost use Rattle.mmio_v2.specs.Operation.{Raise, Write};
-ghost use Rattle.mmio_v2.specs.Step.{step};
+ghost use Rattle.mmio_v2.specs.Operation.{Raise, Read, Write};
+ghost use Rattle.mmio_v2.specs.Step.{replied, step};
 ghost use Rattle.mmio_fast.specs.Tell.{toldOf};
 ghost use Rattle.dewbracket.specs.Numbers.{askedByNumber, fieldNumbered, heldByNumber, kindNumbered};
 use mmio_config::Configuration;
@@ -98,6 +98,35 @@ pub extern "C" fn dewbracket_held_entry(d: MmioV2Device, queue: u32, kind: u32) 
 }
 
 // ---- behind a lent device
+
+/// A read of as many bytes as are lent for the reply, as `read`.
+#[no_mangle]
+pub extern "C" fn dewbracket_read(
+    dev: &MmioV2Device,
+    k: u32,
+    offset: u64,
+    reply: &mut [u8],
+    actions: &mut [u64],
+) -> Told
+    ensures { λ r. ⌜ (r ≡ toldOf (step (length (now (actions .entry))) (now (dev .entry) .state) (Read k offset (length (now (reply .entry))))))
+        × (now (reply .exit) ≡ replied (now (reply .entry)) (step (length (now (actions .entry))) (now (dev .entry) .state) (Read k offset (length (now (reply .entry))))))
+        × (now (actions .exit) ≡ laid (now (actions .entry)) (step (length (now (actions .entry))) (now (dev .entry) .state) (Read k offset (length (now (reply .entry)))) .actions)) ⌝ }
+{
+    let hot = dev.state.hot;
+    let len = reply.len();
+    let room = actions.len();
+    let polled = mmio_fast::quick_read(hot, offset, len, room);
+    if polled.done {
+        return mmio_fast::give(reply, polled.value);
+    }
+    let count = dev.state.config.count;
+    let queues = dev.state.queues;
+    let ready = mmio_fast::quick_ready(hot, count, queues, offset, len, room);
+    if ready.done {
+        return mmio_fast::give(reply, ready.value);
+    }
+    mmio_fast::full_read(*dev, k, offset, reply, actions)
+}
 
 /// A write of these bytes, as `write`.
 #[no_mangle]
