@@ -177,18 +177,6 @@ typedef struct {
 
 dewbracket_made dewbracket_new(dewbracket_configuration configuration);
 
-/* The proved functions go by value. A read changes no device. */
-typedef struct {
-    dewbracket_told told;
-    dewbracket_device device;
-} dewbracket_wrote;
-
-dewbracket_told dewbracket_pass_read(dewbracket_device device, uint32_t k, uint64_t offset, uint8_t *reply, size_t length,
-                                     uint64_t *actions, size_t words);
-dewbracket_wrote dewbracket_pass_write(dewbracket_device device, uint32_t k, uint64_t offset, const uint8_t *bytes,
-                                       size_t length, uint64_t *actions, size_t words);
-dewbracket_wrote dewbracket_pass_raise(dewbracket_device device, uint32_t bits, uint64_t *actions, size_t words);
-
 /* An access or a raise. The device changes in place, the reply's bytes are written to `reply` (their number is the
  * access's length), and the requests to the host to `actions`, five words each.
  *
@@ -197,23 +185,11 @@ dewbracket_wrote dewbracket_pass_raise(dewbracket_device device, uint32_t bits, 
  * them. So keep a copy of the device, step with DEWBRACKET_ALL and perform the actions in order. Where the host refuses the
  * answered request j, counted from 0, put the copy back and step again with k = j: the records are the same as far as the
  * refused one, and those after it undo what was done. A read goes the same whatever k is. */
-static inline dewbracket_told dewbracket_read(const dewbracket_device *device, uint32_t k, uint64_t offset, uint8_t *reply,
-                                              size_t length, uint64_t *actions, size_t words) {
-    return dewbracket_pass_read(*device, k, offset, reply, length, actions, words);
-}
-
-static inline dewbracket_told dewbracket_write(dewbracket_device *device, uint32_t k, uint64_t offset, const uint8_t *bytes,
-                                               size_t length, uint64_t *actions, size_t words) {
-    dewbracket_wrote wrote = dewbracket_pass_write(*device, k, offset, bytes, length, actions, words);
-    *device = wrote.device;
-    return wrote.told;
-}
-
-static inline dewbracket_told dewbracket_raise(dewbracket_device *device, uint32_t bits, uint64_t *actions, size_t words) {
-    dewbracket_wrote wrote = dewbracket_pass_raise(*device, bits, actions, words);
-    *device = wrote.device;
-    return wrote.told;
-}
+dewbracket_told dewbracket_read(const dewbracket_device *device, uint32_t k, uint64_t offset, uint8_t *reply,
+                                size_t length, uint64_t *actions, size_t words);
+dewbracket_told dewbracket_write(dewbracket_device *device, uint32_t k, uint64_t offset, const uint8_t *bytes,
+                                 size_t length, uint64_t *actions, size_t words);
+dewbracket_told dewbracket_raise(dewbracket_device *device, uint32_t bits, uint64_t *actions, size_t words);
 
 /* The status register; a field of a queue; a registration of a queue. A number that means no field or no registration is
  * answered as a queue that isn't there is. */

@@ -4,3 +4,4 @@ pub mod Device
 pub mod Writing
 pub mod Raising
 pub mod Reading
+pub mod Determined

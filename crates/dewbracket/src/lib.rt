@@ -2,13 +2,9 @@
 //! with the promises of `MmioV2Device`'s own methods, and take the short way where that is enough.
 
 ghost use mathlib.Core.Path.{_≡_};
-ghost use lib.ListN.{length};
-ghost use Rattle.tape.specs.Play.{laid};
-ghost use Rattle.mmio_v2.specs.Fresh.{device, madeDevice};
-ghost use Rattle.mmio_v2.specs.Operation.{Raise, Read, Write};
-ghost use Rattle.mmio_v2.specs.Step.{replied, step};
-ghost use Rattle.mmio_fast.specs.Tell.{toldOf};
+ghost use Rattle.mmio_v2.specs.Fresh.{madeDevice};
 ghost use Rattle.dewbracket.specs.Numbers.{askedByNumber, fieldNumbered, heldByNumber, kindNumbered};
+ghost use Rattle.dewbracket.specs.Promises.{Raises, Reads, Writes};
 use mmio_config::Configuration;
 use mmio_fast::Told;
 use mmio_tables::Kind;
@@ -108,9 +104,7 @@ pub extern "C" fn dewbracket_read(
     reply: &mut [u8],
     actions: &mut [u64],
 ) -> Told
-    ensures { λ r. ⌜ (r ≡ toldOf (step (length (now (actions .entry))) (now (dev .entry) .state) (Read k offset (length (now (reply .entry))))))
-        × (now (reply .exit) ≡ replied (now (reply .entry)) (step (length (now (actions .entry))) (now (dev .entry) .state) (Read k offset (length (now (reply .entry))))))
-        × (now (actions .exit) ≡ laid (now (actions .entry)) (step (length (now (actions .entry))) (now (dev .entry) .state) (Read k offset (length (now (reply .entry)))) .actions)) ⌝ }
+    ensures { λ r. ⌜ Reads (now (dev .entry)) k offset (now (reply .entry)) (now (reply .exit)) (now (actions .entry)) (now (actions .exit)) r ⌝ }
 {
     let hot = dev.state.hot;
     let len = reply.len();
@@ -137,9 +131,7 @@ pub extern "C" fn dewbracket_write(
     bytes: &[u8],
     actions: &mut [u64],
 ) -> Told
-    ensures { λ r. ⌜ (now (dev .exit) ≡ device (step (length (now (actions .entry))) (now (dev .entry) .state) (Write k offset (now (bytes .entry))) .state))
-        × (r ≡ toldOf (step (length (now (actions .entry))) (now (dev .entry) .state) (Write k offset (now (bytes .entry)))))
-        × (now (actions .exit) ≡ laid (now (actions .entry)) (step (length (now (actions .entry))) (now (dev .entry) .state) (Write k offset (now (bytes .entry))) .actions)) ⌝ }
+    ensures { λ r. ⌜ Writes (now (dev .entry)) (now (dev .exit)) k offset (now (bytes .entry)) (now (actions .entry)) (now (actions .exit)) r ⌝ }
 {
     let quick = mmio_fast::quick_write(dev.state.hot, offset, bytes, actions.len());
     if quick.done {
@@ -158,9 +150,7 @@ pub extern "C" fn dewbracket_write(
 /// The given interrupt bits are set, as `raise`.
 #[no_mangle]
 pub extern "C" fn dewbracket_raise(dev: &mut MmioV2Device, bits: u32, actions: &mut [u64]) -> Told
-    ensures { λ r. ⌜ (now (dev .exit) ≡ device (step (length (now (actions .entry))) (now (dev .entry) .state) (Raise bits) .state))
-        × (r ≡ toldOf (step (length (now (actions .entry))) (now (dev .entry) .state) (Raise bits)))
-        × (now (actions .exit) ≡ laid (now (actions .entry)) (step (length (now (actions .entry))) (now (dev .entry) .state) (Raise bits) .actions)) ⌝ }
+    ensures { λ r. ⌜ Raises (now (dev .entry)) (now (dev .exit)) bits (now (actions .entry)) (now (actions .exit)) r ⌝ }
 {
     let raised = mmio_fast::quick_raise(dev.state.hot, bits, actions.len());
     dev.state.hot.interrupts = raised.bits;

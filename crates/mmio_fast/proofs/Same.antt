@@ -150,28 +150,20 @@ reply-short w s k o l = by (ltb w roomWords)
     by true = lit≤ tt
     by false = shown-short s (readAt o l)
 
--- a write has no reply, and a raise has none: what is told of them, from the answer
-abbrev Mute : Operation → Type 0
-Mute op = (w : ℕ) (s : State) → length (step w s op .reply) ≡ 0
-
-pub mute-write : (k o : ℕ) (bs : List ℕ) → Mute (Write k o bs)
-mute-write k o bs w s = by (ltb w roomWords)
+-- a write has no reply
+write-mute : (w : ℕ) (s : State) (k o : ℕ) (bs : List ℕ) → length (step w s (Write k o bs) .reply) ≡ 0
+write-mute w s k o bs = by (ltb w roomWords)
   where
     by : (t : Bool) → length (pick t (refusing s) (operated s (Write k o bs)) .reply) ≡ 0
     by true = refl
     by false = refl
 
-pub mute-raise : (b : ℕ) → Mute (Raise b)
-mute-raise b w s = by (ltb w roomWords)
-  where
-    by : (t : Bool) → length (pick t (refusing s) (operated s (Raise b)) .reply) ≡ 0
-    by true = refl
-    by false = refl
-
-pub wrote-whole : (op : Operation) → Mute op → (w : ℕ) (s : State) (a : Answer) (t : Told) → a ≡ answerOf (step w s op)
-    → t ≡ tell (a .refusal) 0 (a .count) → _≡_ {A = Wrote} (record { told = t; device = a .device }) (wroteOf (step w s op))
-wrote-whole op mute w s a t e f =
+-- what is told of a write, from its answer
+pub wrote-whole : (w : ℕ) (s : State) (k o : ℕ) (bs : List ℕ) (a : Answer) (t : Told) → a ≡ answerOf (step w s (Write k o bs))
+    → t ≡ tell (a .refusal) 0 (a .count) → _≡_ {A = Wrote} (record { told = t; device = a .device }) (wroteOf (step w s (Write k o bs)))
+wrote-whole w s k o bs a t e f =
+    let o′ = step w s (Write k o bs) in
     ap₂ (λ (x : Told) (y : MmioV2Device). record { told = x; device = y })
     (f ∙ ap (λ (z : Answer). tell (z .refusal) 0 (z .count)) e
-    ∙ ap (λ (n : ℕ). tell (step w s op .refusal) n (length (step w s op .actions))) (sym (mute w s)))
+    ∙ ap (λ (n : ℕ). tell (o′ .refusal) n (length (o′ .actions))) (sym (write-mute w s k o bs)))
     (ap (λ (z : Answer). z .device) e)

@@ -4,7 +4,7 @@
 
 ghost use mathlib.Core.Path.{_≡_};
 ghost use Rattle.words.specs.Bytes.{writeLe};
-ghost use Rattle.mmio_v2.specs.Operation.{Raise, Read, Write};
+ghost use Rattle.mmio_v2.specs.Operation.{Read, Write};
 ghost use Rattle.mmio_v2.specs.Step.{replied, step};
 ghost use Rattle.tape.specs.Play.{laid};
 ghost use Prim.Native.Nat.{_≤_};
@@ -199,18 +199,6 @@ pub fn full_write(d: MmioV2Device, k: u32, offset: u64, bytes: &[u8], actions: &
         × (now (actions .exit) ≡ laid (now (actions .entry)) (step (length (now (actions .entry))) (d .state) (Write k offset (now (bytes .entry))) .actions)) ⌝ }
 {
     let a = d.write(k, offset, bytes, actions);
-    let device = a.device;
-    Wrote {
-        told: tell(a.refusal, 0, a.count),
-        device,
-    }
-}
-
-/// A raise the long way.
-pub fn full_raise(d: MmioV2Device, bits: u32, actions: &mut [u64]) -> Wrote
-    ensures { λ r. ⌜ (r ≡ wroteOf (step (length (now (actions .entry))) (d .state) (Raise bits))) × (now (actions .exit) ≡ laid (now (actions .entry)) (step (length (now (actions .entry))) (d .state) (Raise bits) .actions)) ⌝ }
-{
-    let a = d.raise(bits, actions);
     let device = a.device;
     Wrote {
         told: tell(a.refusal, 0, a.count),

@@ -95,12 +95,6 @@ pub struct Told {
 }
 
 #[repr(C)]
-struct Wrote {
-    told: Told,
-    device: Device,
-}
-
-#[repr(C)]
 pub struct Reply {
     pub refusal: u32,
     pub value: u32,
@@ -133,8 +127,8 @@ const _: () = {
 
 extern "C" {
     pub fn dewbracket_new(configuration: Configuration) -> Made;
-    fn dewbracket_pass_read(
-        device: Device,
+    pub fn dewbracket_read(
+        device: *const Device,
         k: u32,
         offset: u64,
         reply: *mut u8,
@@ -142,55 +136,17 @@ extern "C" {
         actions: *mut u64,
         words: usize,
     ) -> Told;
-    fn dewbracket_pass_write(
-        device: Device,
+    pub fn dewbracket_write(
+        device: *mut Device,
         k: u32,
         offset: u64,
         bytes: *const u8,
         length: usize,
         actions: *mut u64,
         words: usize,
-    ) -> Wrote;
-    fn dewbracket_pass_raise(device: Device, bits: u32, actions: *mut u64, words: usize) -> Wrote;
+    ) -> Told;
+    pub fn dewbracket_raise(device: *mut Device, bits: u32, actions: *mut u64, words: usize) -> Told;
     pub fn dewbracket_driver_status(device: Device) -> u32;
     pub fn dewbracket_field(device: Device, queue: u32, field: u32) -> Reply;
     pub fn dewbracket_held_entry(device: Device, queue: u32, kind: u32) -> Standing;
-}
-
-/// # Safety
-/// Each pointer is good for its length, and what it points to overlaps nothing else.
-pub unsafe fn dewbracket_read(
-    device: &Device,
-    k: u32,
-    offset: u64,
-    reply: *mut u8,
-    length: usize,
-    actions: *mut u64,
-    words: usize,
-) -> Told {
-    unsafe { dewbracket_pass_read(*device, k, offset, reply, length, actions, words) }
-}
-
-/// # Safety
-/// As `dewbracket_read`.
-pub unsafe fn dewbracket_write(
-    device: &mut Device,
-    k: u32,
-    offset: u64,
-    bytes: *const u8,
-    length: usize,
-    actions: *mut u64,
-    words: usize,
-) -> Told {
-    let wrote = unsafe { dewbracket_pass_write(*device, k, offset, bytes, length, actions, words) };
-    *device = wrote.device;
-    wrote.told
-}
-
-/// # Safety
-/// As `dewbracket_read`.
-pub unsafe fn dewbracket_raise(device: &mut Device, bits: u32, actions: *mut u64, words: usize) -> Told {
-    let wrote = unsafe { dewbracket_pass_raise(*device, bits, actions, words) };
-    *device = wrote.device;
-    wrote.told
 }
