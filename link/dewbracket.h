@@ -191,6 +191,20 @@ dewbracket_told dewbracket_write(dewbracket_device *device, uint32_t k, uint64_t
                                  size_t length, uint64_t *actions, size_t words);
 dewbracket_told dewbracket_raise(dewbracket_device *device, uint32_t bits, uint64_t *actions, size_t words);
 
+/* The same by value, for a caller that keeps no device in place. The device that comes back is the one after it. */
+typedef struct {
+    dewbracket_device device;
+    uint32_t refusal;
+    size_t reply;
+    size_t count;
+} dewbracket_answer;
+
+dewbracket_answer dewbracket_pass_read(dewbracket_device device, uint32_t k, uint64_t offset, uint8_t *reply, size_t length,
+                                       uint64_t *actions, size_t words);
+dewbracket_answer dewbracket_pass_write(dewbracket_device device, uint32_t k, uint64_t offset, const uint8_t *bytes,
+                                        size_t length, uint64_t *actions, size_t words);
+dewbracket_answer dewbracket_pass_raise(dewbracket_device device, uint32_t bits, uint64_t *actions, size_t words);
+
 /* The status register; a field of a queue; a registration of a queue. A number that means no field or no registration is
  * answered as a queue that isn't there is. */
 uint32_t dewbracket_driver_status(dewbracket_device device);

@@ -1,8 +1,12 @@
-//! The device for C and Rust to link. `new` and the questions go by value; an access and a raise go behind a lent device,
-//! with the promises of `MmioV2Device`'s own methods, and take the short way where that is enough.
+//! The device for C and Rust to link. `new` and the questions go by value. An access and a raise go by value, or behind a lent
+//! device: then with the same promises, and by the short way where that is enough.
 
 ghost use mathlib.Core.Path.{_≡_};
+ghost use lib.ListN.{length};
+ghost use Rattle.tape.specs.Play.{laid};
 ghost use Rattle.mmio_v2.specs.Fresh.{madeDevice};
+ghost use Rattle.mmio_v2.specs.Operation.{Raise, Read, Write};
+ghost use Rattle.mmio_v2.specs.Step.{answerOf, replied, step};
 ghost use Rattle.dewbracket.specs.Numbers.{askedByNumber, fieldNumbered, heldByNumber, kindNumbered};
 ghost use Rattle.dewbracket.specs.Promises.{Raises, Reads, Writes};
 use mmio_config::Configuration;
@@ -10,6 +14,7 @@ use mmio_fast::Told;
 use mmio_tables::Kind;
 use mmio_tables::Reply;
 use mmio_tables::Standing;
+use mmio_v2::Answer;
 use mmio_v2::MadeDevice;
 use mmio_v2::MmioV2Device;
 use tape::Entry;
@@ -91,6 +96,48 @@ pub extern "C" fn dewbracket_held_entry(d: MmioV2Device, queue: u32, kind: u32) 
         stands: false,
         entry,
     }
+}
+
+// ---- by value: the device's own methods
+
+/// `read`.
+#[no_mangle]
+pub extern "C" fn dewbracket_pass_read(
+    d: MmioV2Device,
+    k: u32,
+    offset: u64,
+    reply: &mut [u8],
+    actions: &mut [u64],
+) -> Answer
+    ensures { λ r. ⌜ r ≡ answerOf (step (length (now (actions .entry))) (d .state) (Read k offset (length (now (reply .entry))))) ⌝ }
+    ensures { λ r. ⌜ now (reply .exit) ≡ replied (now (reply .entry)) (step (length (now (actions .entry))) (d .state) (Read k offset (length (now (reply .entry))))) ⌝ }
+    ensures { λ r. ⌜ now (actions .exit) ≡ laid (now (actions .entry)) (step (length (now (actions .entry))) (d .state) (Read k offset (length (now (reply .entry)))) .actions) ⌝ }
+{
+    d.read(k, offset, reply, actions)
+}
+
+/// `write`.
+#[no_mangle]
+pub extern "C" fn dewbracket_pass_write(
+    d: MmioV2Device,
+    k: u32,
+    offset: u64,
+    bytes: &[u8],
+    actions: &mut [u64],
+) -> Answer
+    ensures { λ r. ⌜ r ≡ answerOf (step (length (now (actions .entry))) (d .state) (Write k offset (now (bytes .entry)))) ⌝ }
+    ensures { λ r. ⌜ now (actions .exit) ≡ laid (now (actions .entry)) (step (length (now (actions .entry))) (d .state) (Write k offset (now (bytes .entry))) .actions) ⌝ }
+{
+    d.write(k, offset, bytes, actions)
+}
+
+/// `raise`.
+#[no_mangle]
+pub extern "C" fn dewbracket_pass_raise(d: MmioV2Device, bits: u32, actions: &mut [u64]) -> Answer
+    ensures { λ r. ⌜ r ≡ answerOf (step (length (now (actions .entry))) (d .state) (Raise bits)) ⌝ }
+    ensures { λ r. ⌜ now (actions .exit) ≡ laid (now (actions .entry)) (step (length (now (actions .entry))) (d .state) (Raise bits) .actions) ⌝ }
+{
+    d.raise(bits, actions)
 }
 
 // ---- behind a lent device

@@ -47,6 +47,16 @@ impl Default for Actions {
 }
 
 impl Actions {
+    fn answered(&mut self, answer: raw::Answer) -> (Device, Told) {
+        self.count = answer.count;
+        (Device(answer.device), Told { refusal: answer.refusal, reply: answer.reply as u32, count: answer.count })
+    }
+
+    /// All the lent words, those past the last record as an earlier access left them.
+    pub fn words(&self) -> &[u64] {
+        &self.words
+    }
+
     /// The requests of the last access, in order.
     pub fn iter(&self) -> impl Iterator<Item = Action> + '_ {
         let records = self.words.chunks_exact(5).take(self.count);
@@ -124,6 +134,34 @@ impl Device {
         let told = unsafe { raw::dewbracket_raise(&mut self.0, bits, words.as_mut_ptr(), words.len()) };
         actions.count = told.count;
         told
+    }
+
+    /// As `read`, by value: always the long way.
+    pub fn passed_read(self, k: u32, offset: u64, reply: &mut [u8], actions: &mut Actions) -> (Self, Told) {
+        let words = &mut actions.words;
+        // SAFETY: as in `read`.
+        let answer = unsafe {
+            raw::dewbracket_pass_read(self.0, k, offset, reply.as_mut_ptr(), reply.len(), words.as_mut_ptr(), words.len())
+        };
+        actions.answered(answer)
+    }
+
+    /// As `write`, by value: always the long way.
+    pub fn passed_write(self, k: u32, offset: u64, bytes: &[u8], actions: &mut Actions) -> (Self, Told) {
+        let words = &mut actions.words;
+        // SAFETY: as in `read`.
+        let answer = unsafe {
+            raw::dewbracket_pass_write(self.0, k, offset, bytes.as_ptr(), bytes.len(), words.as_mut_ptr(), words.len())
+        };
+        actions.answered(answer)
+    }
+
+    /// As `raise`, by value: always the long way.
+    pub fn passed_raise(self, bits: u32, actions: &mut Actions) -> (Self, Told) {
+        let words = &mut actions.words;
+        // SAFETY: as in `read`.
+        let answer = unsafe { raw::dewbracket_pass_raise(self.0, bits, words.as_mut_ptr(), words.len()) };
+        actions.answered(answer)
     }
 
     /// A write whose requests `perform` carries out, each one once and in order. It answers whether it accepts one; of a

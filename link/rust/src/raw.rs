@@ -94,6 +94,16 @@ pub struct Told {
     pub count: usize,
 }
 
+/// What comes back by value: the device after it, and what is told.
+#[derive(Clone, Copy)]
+#[repr(C)]
+pub struct Answer {
+    pub device: Device,
+    pub refusal: u32,
+    pub reply: usize,
+    pub count: usize,
+}
+
 #[repr(C)]
 pub struct Reply {
     pub refusal: u32,
@@ -146,6 +156,25 @@ extern "C" {
         words: usize,
     ) -> Told;
     pub fn dewbracket_raise(device: *mut Device, bits: u32, actions: *mut u64, words: usize) -> Told;
+    pub fn dewbracket_pass_read(
+        device: Device,
+        k: u32,
+        offset: u64,
+        reply: *mut u8,
+        length: usize,
+        actions: *mut u64,
+        words: usize,
+    ) -> Answer;
+    pub fn dewbracket_pass_write(
+        device: Device,
+        k: u32,
+        offset: u64,
+        bytes: *const u8,
+        length: usize,
+        actions: *mut u64,
+        words: usize,
+    ) -> Answer;
+    pub fn dewbracket_pass_raise(device: Device, bits: u32, actions: *mut u64, words: usize) -> Answer;
     pub fn dewbracket_driver_status(device: Device) -> u32;
     pub fn dewbracket_field(device: Device, queue: u32, field: u32) -> Reply;
     pub fn dewbracket_held_entry(device: Device, queue: u32, kind: u32) -> Standing;
