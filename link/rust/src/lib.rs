@@ -106,6 +106,7 @@ impl Device {
     }
 
     /// A read of as many bytes as `reply` has. Whatever `k` is, it goes the same.
+    #[inline]
     pub fn read(&self, k: u32, offset: u64, reply: &mut [u8], actions: &mut Actions) -> Told {
         let words = &mut actions.words;
         // SAFETY: each pointer is good for its length, and no two overlap: they come from distinct references.
@@ -117,6 +118,7 @@ impl Device {
     }
 
     /// A write of these bytes.
+    #[inline]
     pub fn write(&mut self, k: u32, offset: u64, bytes: &[u8], actions: &mut Actions) -> Told {
         let words = &mut actions.words;
         // SAFETY: as in `read`.
@@ -128,6 +130,7 @@ impl Device {
     }
 
     /// The given interrupt bits are set.
+    #[inline]
     pub fn raise(&mut self, bits: u32, actions: &mut Actions) -> Told {
         let words = &mut actions.words;
         // SAFETY: as in `read`.
