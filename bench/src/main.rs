@@ -77,21 +77,6 @@ fn by_rust(device: &dyn DeviceIo, list: &[Access], reply: &mut [u8; 4]) {
     }
 }
 
-/// The loop itself, with nothing called.
-fn by_nobody(list: &[Access], reply: &mut [u8; 4]) {
-    for access in list {
-        match *access {
-            Access::Read { offset, length } => {
-                black_box((offset, black_box(&mut reply[..length])));
-            }
-            Access::Write { offset, length, value } => {
-                let bytes = value.to_le_bytes();
-                black_box((offset, black_box(&bytes[..length])));
-            }
-        }
-    }
-}
-
 /// Both give the same replies, one access at a time.
 fn check(list: &[Access]) {
     let (mut port, rust) = (port_device(), rust::Host::new());
@@ -175,9 +160,6 @@ fn main() {
     check(&list);
     println!("{} recorded accesses; {ROUNDS} rounds; ns an access, medians", list.len());
     recorded(&list).print("recorded, polling-blk");
-    let start = Instant::now();
-    (0..ROUNDS).for_each(|_| by_nobody(black_box(&list), &mut [0; 4]));
-    println!("of it the loop's own      {:6.2} ns", start.elapsed().as_nanos() as f64 / (ROUNDS * list.len()) as f64);
     for offset in [0x060, 0x044, 0x070] {
         alone(&list, offset).print(&format!("read of {offset:03x} alone"));
     }

@@ -2,16 +2,15 @@
 use mathlib.Core.Bool.{Bool, true, false, true≢false}
 use mathlib.Core.Path.{_≡_, refl, sym, ap, ap₂, _∙_}
 use mathlib.Core.List.{List, []}
-use Prim.Native.Nat.{ℕ, _-_, _≤_}
+use Prim.Native.Nat.{ℕ, _≤_}
 use borrow.Author.Tests.{eqb-true, le-leb}
 use native.Mathlib.Omega.{arith}
 use lib.Bits.{bitOr}
-use lib.Dec.{eqb, ltb, leb, lit≤}
+use lib.Dec.{eqb, ltb, lit≤}
 use lib.ListN.{length}
 use Rattle.words.specs.Pick.{pick}
 use Rattle.words.specs.Bytes.{bytesOf, readLe, writeLe}
-use Rattle.registers.specs.Rows.{find}
-use Rattle.registers.specs.Registers.{readAt, readRows}
+use Rattle.registers.specs.Registers.{readAt}
 use Rattle.registers.specs.declared.ReadRegister.{ReadRegister}
 use Rattle.registers.specs.declared.ReadRegister.the-variants as R
 use Rattle.mmio_state.specs.State.{State, withHot}

@@ -1,5 +1,5 @@
 -- The walk of `Raising.antt`, at the step.
-use mathlib.Core.Path.{_≡_, sym, ap}
+use mathlib.Core.Path.{sym, ap}
 use mathlib.Core.List.{List}
 use Prim.Native.Nat.{ℕ}
 use lib.ListN.{length}
@@ -11,7 +11,7 @@ use Rattle.mmio_v2.specs.declared.MmioV2Device.{MmioV2Device}
 use Rattle.mmio_fast.specs.Quick.{quickRaise}
 use Rattle.mmio_fast.specs.Tell.{toldOf}
 use Rattle.mmio_fast.specs.declared.Told.{Told}
-use Rattle.mmio_fast.proofs.Same.{bitsOnly, raise-same}
+use Rattle.mmio_fast.proofs.Same.{raise-same}
 use Rattle.mmio_fast.proofs.quick_raise.Symbol as short
 use Rattle.mmio_fast.proofs.quick_raise.Met as short-thm
 use Rattle.dewbracket.proofs.Device as dev

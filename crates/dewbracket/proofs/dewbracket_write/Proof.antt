@@ -1,6 +1,5 @@
 -- The walk of `Writing.antt`, at the step.
 use mathlib.Core.Path.{_≡_, sym, ap}
-use mathlib.Core.Bool.{true}
 use mathlib.Core.List.{List}
 use Prim.Native.Nat.{ℕ}
 use lib.ListN.{length}
@@ -10,7 +9,7 @@ use Rattle.mmio_v2.specs.Operation.{Write}
 use Rattle.mmio_v2.specs.Step.{Outcome, step}
 use Rattle.mmio_v2.specs.declared.MmioV2Device.{MmioV2Device}
 use Rattle.mmio_fast.specs.Quick.{quickWrite}
-use Rattle.mmio_fast.specs.Tell.{tell, toldOf, wroteOf}
+use Rattle.mmio_fast.specs.Tell.{toldOf, wroteOf}
 use Rattle.mmio_fast.specs.declared.Wrote.{Wrote}
 use Rattle.mmio_fast.proofs.Same.{bitsOnly, write-same}
 use Rattle.mmio_fast.proofs.quick_write.Symbol as short

@@ -1,40 +1,28 @@
-use native.Mathlib.Omega.{arith}
-use borrow.Author.Needs.{needs}
-use borrow.Author.Tests.{eq-eqb, ne-eqb, lt-ltb, le-ltb, le-leb, lt-leb}
+use borrow.Author.Tests.{ne-eqb}
 use Rattle.dewbracket.proofs.field_numbered.Statement.{statement}
 use Rattle.dewbracket.proofs.field_numbered.Tie as tie
-use Rattle.dewbracket.proofs.field_numbered.Reads as reads
-use Rattle.dewbracket.proofs.field_numbered.Lts as lts
 
--- src/lib.rt:33:1
 returns : tie.Need-returns
 returns c = rw (c .match .keys1)
 
--- src/lib.rt:33:1
 returns-2 : tie.Need-returns-2
 returns-2 c = rw (c .match .keys2)
 
--- src/lib.rt:33:1
 returns-3 : tie.Need-returns-3
 returns-3 c = rw (c .match .keys3)
 
--- src/lib.rt:33:1
 returns-4 : tie.Need-returns-4
 returns-4 c = rw (c .match .keys4)
 
--- src/lib.rt:33:1
 returns-5 : tie.Need-returns-5
 returns-5 c = rw (c .match .keys5)
 
--- src/lib.rt:33:1
 returns-6 : tie.Need-returns-6
 returns-6 c = rw (c .match .keys6)
 
--- src/lib.rt:33:1
 returns-7 : tie.Need-returns-7
 returns-7 c = rw (c .match .keys7)
 
--- src/lib.rt:33:1
 returns-8 : tie.Need-returns-8
 returns-8 c = simp (ne-eqb _ _ (c .match .rest .1), ne-eqb _ _ (c .match .rest .0 .1), ne-eqb _ _ (c .match .rest .0 .0 .1), ne-eqb _ _ (c .match .rest .0 .0 .0 .1), ne-eqb _ _ (c .match .rest .0 .0 .0 .0 .1), ne-eqb _ _ (c .match .rest .0 .0 .0 .0 .0 .1), ne-eqb _ _ (c .match .rest .0 .0 .0 .0 .0 .0 .1))
 
