@@ -1,0 +1,232 @@
+//! The proved virtio MMIO device, for Rust. Nothing here is `unsafe` to its user.
+//!
+//! A [`Device`] is plain data and `Copy`. An access takes the words for the requests to the host, [`Actions`], and tells
+//! what came of it, [`Told`].
+//!
+//! # The outcome number
+//!
+//! `k` says how many of the requests that the host answers are accepted: the first `k` are, the next is refused, and none
+//! follows it. A host can't know that before it has seen them. So a VMM steps with [`ALL`], performs the actions, and where
+//! it refuses the answered request `j`, counted from 0, it steps again from the old device with `k = j`. The records are
+//! then the same as far as the refused one, and those after it undo what was done. [`Device::write_with`] does just that.
+
+mod raw;
+
+pub use raw::{Configuration, Entry, Region, Told};
+
+/// An outcome number by which every request is accepted.
+pub const ALL: u32 = u32::MAX;
+
+/// The words that an access must be lent, five for each of at most 64 records.
+pub const ACTION_WORDS: usize = 320;
+
+/// Room for the requests of one access.
+pub struct Actions {
+    words: [u64; ACTION_WORDS],
+    count: usize,
+}
+
+/// A request to the host: its kind, and four operands of which the unused are 0.
+#[derive(Clone, Copy, Debug, PartialEq, Eq)]
+pub struct Action {
+    pub kind: u64,
+    pub operands: [u64; 4],
+}
+
+impl Action {
+    /// Whether the host answers it: accepts or refuses.
+    pub fn answered(self) -> bool {
+        matches!(self.kind, 1 | 3 | 4 | 5 | 7 | 8 | 9 | 10)
+    }
+}
+
+impl Default for Actions {
+    fn default() -> Self {
+        Actions { words: [0; ACTION_WORDS], count: 0 }
+    }
+}
+
+impl Actions {
+    fn answered(&mut self, answer: raw::Answer) -> (Device, Told) {
+        self.count = answer.count;
+        (Device(answer.device), Told { refusal: answer.refusal, reply: answer.reply as u32, count: answer.count })
+    }
+
+    /// All the lent words, those past the last record as an earlier access left them.
+    pub fn words(&self) -> &[u64] {
+        &self.words
+    }
+
+    /// The requests of the last access, in order.
+    pub fn iter(&self) -> impl Iterator<Item = Action> + '_ {
+        let records = self.words.chunks_exact(5).take(self.count);
+        records.map(|words| Action { kind: words[0], operands: [words[1], words[2], words[3], words[4]] })
+    }
+}
+
+/// A field of a queue.
+#[derive(Clone, Copy, Debug, PartialEq, Eq)]
+#[repr(u32)]
+pub enum Field {
+    Size,
+    Ready,
+    DescLow,
+    DescHigh,
+    AvailLow,
+    AvailHigh,
+    UsedLow,
+    UsedHigh,
+}
+
+/// A registration of a queue.
+#[derive(Clone, Copy, Debug, PartialEq, Eq)]
+#[repr(u32)]
+pub enum Kind {
+    Doorbell,
+    Notify,
+}
+
+/// The number of a refusal.
+#[derive(Clone, Copy, Debug, PartialEq, Eq)]
+pub struct Refusal(pub u32);
+
+/// The device.
+#[derive(Clone, Copy)]
+pub struct Device(raw::Device);
+
+impl Device {
+    /// A fresh device, or refusal 1 to 6.
+    pub fn new(configuration: Configuration) -> Result<Self, Refusal> {
+        // SAFETY: the layouts are those of the archive, which `layout` in raw.rs and the tests hold to.
+        let made = unsafe { raw::dewbracket_new(configuration) };
+        match made.refusal {
+            0 => Ok(Device(made.device)),
+            number => Err(Refusal(number)),
+        }
+    }
+
+    /// A read of as many bytes as `reply` has. Whatever `k` is, it goes the same.
+    #[inline]
+    pub fn read(&self, k: u32, offset: u64, reply: &mut [u8], actions: &mut Actions) -> Told {
+        let words = &mut actions.words;
+        // SAFETY: each pointer is good for its length, and no two overlap: they come from distinct references.
+        let told = unsafe {
+            raw::dewbracket_read(&self.0, k, offset, reply.as_mut_ptr(), reply.len(), words.as_mut_ptr(), words.len())
+        };
+        actions.count = told.count;
+        told
+    }
+
+    /// A write of these bytes.
+    #[inline]
+    pub fn write(&mut self, k: u32, offset: u64, bytes: &[u8], actions: &mut Actions) -> Told {
+        let words = &mut actions.words;
+        // SAFETY: as in `read`.
+        let told = unsafe {
+            raw::dewbracket_write(&mut self.0, k, offset, bytes.as_ptr(), bytes.len(), words.as_mut_ptr(), words.len())
+        };
+        actions.count = told.count;
+        told
+    }
+
+    /// The given interrupt bits are set.
+    #[inline]
+    pub fn raise(&mut self, bits: u32, actions: &mut Actions) -> Told {
+        let words = &mut actions.words;
+        // SAFETY: as in `read`.
+        let told = unsafe { raw::dewbracket_raise(&mut self.0, bits, words.as_mut_ptr(), words.len()) };
+        actions.count = told.count;
+        told
+    }
+
+    /// As `read`, by value: always the long way.
+    pub fn passed_read(self, k: u32, offset: u64, reply: &mut [u8], actions: &mut Actions) -> (Self, Told) {
+        let words = &mut actions.words;
+        // SAFETY: as in `read`.
+        let answer = unsafe {
+            raw::dewbracket_pass_read(self.0, k, offset, reply.as_mut_ptr(), reply.len(), words.as_mut_ptr(), words.len())
+        };
+        actions.answered(answer)
+    }
+
+    /// As `write`, by value: always the long way.
+    pub fn passed_write(self, k: u32, offset: u64, bytes: &[u8], actions: &mut Actions) -> (Self, Told) {
+        let words = &mut actions.words;
+        // SAFETY: as in `read`.
+        let answer = unsafe {
+            raw::dewbracket_pass_write(self.0, k, offset, bytes.as_ptr(), bytes.len(), words.as_mut_ptr(), words.len())
+        };
+        actions.answered(answer)
+    }
+
+    /// As `raise`, by value: always the long way.
+    pub fn passed_raise(self, bits: u32, actions: &mut Actions) -> (Self, Told) {
+        let words = &mut actions.words;
+        // SAFETY: as in `read`.
+        let answer = unsafe { raw::dewbracket_pass_raise(self.0, bits, words.as_mut_ptr(), words.len()) };
+        actions.answered(answer)
+    }
+
+    /// A write whose requests `perform` carries out, each one once and in order. It answers whether it accepts one; of a
+    /// request that isn't answered its answer is ignored. Where it refuses one, the device is that after the refusal, and
+    /// the requests that undo the rest are performed too.
+    pub fn write_with(&mut self, offset: u64, bytes: &[u8], mut perform: impl FnMut(Action) -> bool) {
+        let mut actions = Actions::default();
+        let old = *self;
+        self.write(ALL, offset, bytes, &mut actions);
+        let mut accepted = 0;
+        let mut refused_at = None;
+        for (index, action) in actions.iter().enumerate() {
+            let accepts = perform(action);
+            if action.answered() {
+                if !accepts {
+                    refused_at = Some(index);
+                    break;
+                }
+                accepted += 1;
+            }
+        }
+        if let Some(index) = refused_at {
+            *self = old;
+            self.write(accepted, offset, bytes, &mut actions);
+            actions.iter().skip(index + 1).for_each(|action| {
+                perform(action);
+            });
+        }
+    }
+
+    /// The status register.
+    pub fn driver_status(&self) -> u32 {
+        // SAFETY: by value.
+        unsafe { raw::dewbracket_driver_status(self.0) }
+    }
+
+    /// What a field of a queue holds, or refusal 13.
+    pub fn field(&self, queue: u32, field: Field) -> Result<u32, Refusal> {
+        // SAFETY: by value.
+        let reply = unsafe { raw::dewbracket_field(self.0, queue, field as u32) };
+        match reply.refusal {
+            0 => Ok(reply.value),
+            number => Err(Refusal(number)),
+        }
+    }
+
+    /// Whether a registration of a queue stands, and what it is made with, or refusal 13.
+    pub fn held_entry(&self, queue: u32, kind: Kind) -> Result<(bool, Entry), Refusal> {
+        // SAFETY: by value.
+        let standing = unsafe { raw::dewbracket_held_entry(self.0, queue, kind as u32) };
+        match standing.refusal {
+            0 => Ok((standing.stands, standing.entry)),
+            number => Err(Refusal(number)),
+        }
+    }
+}
+
+impl PartialEq for Device {
+    /// Field by field: the bytes between fields say nothing.
+    fn eq(&self, other: &Self) -> bool {
+        self.0 == other.0
+    }
+}
+
+impl Eq for Device {}
