@@ -48,12 +48,13 @@ module _ (o : Show) (s : List ℕ) (d : State) (i : ℕ) (l : List ℕ) (at : �
 
   same-parted : {l′ l″ : List ℕ} {r r′ : Part} → Parted o s d i l at l′ r → Parted o s d i l at l″ r′ → (r ≡ r′) × (l′ ≡ l″)
   same-parted p q =
-      let e = same-next p q in
-      (same-part
-      (p .state ∙ ap (λ (k : ℕ). device (runFrom next d (logFrom s i (k - i)))) e ∙ sym (q .state))
-      e
-      (p .text .moved ∙ ap (λ (k : ℕ). at + length (logText o d i (logFrom s i (k - i)))) e ∙ sym (q .text .moved)),
-      p .text .wrote ∙ ap (λ (k : ℕ). sets l at (logText o d i (logFrom s i (k - i)))) e ∙ sym (q .text .wrote))
+      let e = same-next p q in (
+        same-part
+            (p .state ∙ ap (λ (k : ℕ). device (runFrom next d (logFrom s i (k - i)))) e ∙ sym (q .state))
+            e
+            (p .text .moved ∙ ap (λ (k : ℕ). at + length (logText o d i (logFrom s i (k - i)))) e ∙ sym (q .text .moved)),
+        p .text .wrote ∙ ap (λ (k : ℕ). sets l at (logText o d i (logFrom s i (k - i)))) e ∙ sym (q .text .wrote),
+      )
 
 same-pieced : {o : Show} {s : List ℕ} {t : Part} {l l′ l″ : List ℕ} {r r′ : Part} → Pieced o s t l l′ r → Pieced o s t l l″ r′ → (r ≡ r′) × (l′ ≡ l″)
 same-pieced {o = o} {s = s} {t = t} {l = l} {l′ = l′} {l″ = l″} {r = r} {r′ = r′} p q = go (mayPlay s (t .next)) refl

@@ -101,58 +101,58 @@ module _ (o : Show) (s l : List ℕ) where
   module _ (n : ℕ) (l₁ l₂ : List ℕ) (t g : Part) (good : Good s) (fits : enough s (length l) ≡ true) (c : n ≡ counted s)
       (x : Begun s l l₁ t) (y : Parted o s (t .device .state) (t .next) l₁ (t .at) l₂ g)
     where
-    long-enough : 128 + 10304 * count s ≤ length l
-    unfolding enough
-    long-enough = leb-true (128 + 10304 * count s) (length l) (rw (good-accepted s good) at fits)
+      long-enough : 128 + 10304 * count s ≤ length l
+      unfolding enough
+      long-enough = leb-true (128 + 10304 * count s) (length l) (rw (good-accepted s good) at fits)
 
-    first : Emitted l 0 headingLine l₁ (t .at)
-    first = roomed 64 (x .text) (omega (arith, long-enough))
+      first : Emitted l 0 headingLine l₁ (t .at)
+      first = roomed 64 (x .text) (omega (arith, long-enough))
 
-    same-long : length l₂ ≡ length l
-    same-long = long (y .text) ∙ long (x .text)
+      same-long : length l₂ ≡ length l
+      same-long = long (y .text) ∙ long (x .text)
 
-    starts : t .device .state ≡ freshState (blockAt s)
-    starts = ap (λ (v : MmioV2Device). v .state) (x .fresh ∙ made-fresh (blockAt s) (good .config))
+      starts : t .device .state ≡ freshState (blockAt s)
+      starts = ap (λ (v : MmioV2Device). v .state) (x .fresh ∙ made-fresh (blockAt s) (good .config))
 
-    -- every record had room, so all were run
-    all-run : g .next ≡ count s
-    all-run = go (eqb (g .next) (count s)) refl
-      where
-        go : (b : Bool) → eqb (g .next) (count s) ≡ b → g .next ≡ count s
-        go true e = eqb-true (g .next) (count s) e
-        go false e = absurd (true≢false (sym there ∙ y .full other))
-          where
-            other : g .next ≡ count s → ⊥
-            other = eqb-false (g .next) (count s) e
+      -- every record had room, so all were run
+      all-run : g .next ≡ count s
+      all-run = go (eqb (g .next) (count s)) refl
+        where
+          go : (b : Bool) → eqb (g .next) (count s) ≡ b → g .next ≡ count s
+          go true e = eqb-true (g .next) (count s) e
+          go false e = absurd (true≢false (sym there ∙ y .full other))
+            where
+              other : g .next ≡ count s → ⊥
+              other = eqb-false (g .next) (count s) e
 
-            fewer : (g .next ≡ count s → ⊥) → g .next + 1 ≤ count s
-            fewer z = omega (arith, y .upto)
+              fewer : (g .next ≡ count s → ⊥) → g .next + 1 ≤ count s
+              fewer z = omega (arith, y .upto)
 
-            there : roomBefore o s (t .device .state) (t .next) (length l₁) (t .at) (g .next) ≡ true
-            there =
-                room-left 10304 (length l₁) (t .at + length (logText o (t .device .state) (t .next) (logFrom s (t .next) (g .next - t .next))))
-                (omega (arith, fewer other, long (x .text), long-enough, y .small, y .text .moved, x .small, x .first))
+              there : roomBefore o s (t .device .state) (t .next) (length l₁) (t .at) (g .next) ≡ true
+              there =
+                  room-left 10304 (length l₁) (t .at + length (logText o (t .device .state) (t .next) (logFrom s (t .next) (g .next - t .next))))
+                  (omega (arith, fewer other, long (x .text), long-enough, y .small, y .text .moved, x .small, x .first))
 
-    pub end-room : g .at + 64 ≤ length l₂
-    end-room = omega (arith, same-long, long-enough, y .small, y .upto, x .small, x .first)
+      pub end-room : g .at + 64 ≤ length l₂
+      end-room = omega (arith, same-long, long-enough, y .small, y .upto, x .small, x .first)
 
-    pub all-told : (k p : ℕ) (l₃ : List ℕ) → k ≡ n
-        → Emitted l₂ (g .at) (pick (room 64 (length l₂) (g .at)) (endLine k) []) l₃ p → Replayed o s l l₃ (record { device = g .device; len = p; whole = true })
-    unfolding replayText
-    all-told k p l₃ q z =
-        let v = good-accepted s good in
-        let m : g .next - t .next ≡ count s = omega (arith, all-run, x .first) in
-        let j : k ≡ count s = q ∙ c ∙ counted-good s good in
-        record {
-          whole = sym fits;
-          state =
-              rw (fits, v)
-              (y .state
-              ∙ ap (λ (i : ℕ). device (runFrom next (t .device .state) (logFrom s (t .next) i))) m
-              ∙ ap₂ (λ (u : State) (i : ℕ). device (runFrom next u (logFrom s i (count s)))) starts (x .first));
-          text =
-              rw (fits, v)
-              (worded (then (then first (y .text)) (roomed 64 z end-room))
-              (ap₂ (λ (i h : ℕ). (headingLine ++ logText o (t .device .state) (t .next) (logFrom s (t .next) i)) ++ endLine h) m j
-              ∙ ap₂ (λ (u : State) (i : ℕ). (headingLine ++ logText o u i (logFrom s i (count s))) ++ endLine (count s)) starts (x .first)));
-        }
+      pub all-told : (k p : ℕ) (l₃ : List ℕ) → k ≡ n
+          → Emitted l₂ (g .at) (pick (room 64 (length l₂) (g .at)) (endLine k) []) l₃ p → Replayed o s l l₃ (record { device = g .device; len = p; whole = true })
+      unfolding replayText
+      all-told k p l₃ q z =
+          let v = good-accepted s good in
+          let m : g .next - t .next ≡ count s = omega (arith, all-run, x .first) in
+          let j : k ≡ count s = q ∙ c ∙ counted-good s good in
+          record {
+            whole = sym fits;
+            state =
+                rw (fits, v)
+                (y .state
+                ∙ ap (λ (i : ℕ). device (runFrom next (t .device .state) (logFrom s (t .next) i))) m
+                ∙ ap₂ (λ (u : State) (i : ℕ). device (runFrom next u (logFrom s i (count s)))) starts (x .first));
+            text =
+                rw (fits, v)
+                (worded (then (then first (y .text)) (roomed 64 z end-room))
+                (ap₂ (λ (i h : ℕ). (headingLine ++ logText o (t .device .state) (t .next) (logFrom s (t .next) i)) ++ endLine h) m j
+                ∙ ap₂ (λ (u : State) (i : ℕ). (headingLine ++ logText o u i (logFrom s i (count s))) ++ endLine (count s)) starts (x .first)));
+          }

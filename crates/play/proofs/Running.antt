@@ -55,8 +55,8 @@ module _ (s : State) (op : Operation) (w w′ : List ℕ) (a : Answer) (full : 3
 
     lines : wordsText w′ (a .count) ≡ actionsText (operated s op .actions)
     lines = rw (counted, written) (words-text w (operated s op .actions) (omega (arith, most)))
+        -- it is told, so it has run
 
-      -- it is told, so it has run
     pub has-run : (o : Show) (n : ℕ) (reply l : List ℕ) (at : ℕ) (l′ : List ℕ) (r : Ran) → reply ≡ operated s op .reply
         → Told o n a reply w′ l at l′ r → Runs true o n s op l at l′ r
     has-run o n reply l at l′ r e′ t =
