@@ -18,8 +18,8 @@ DATA = HERE.parent / 'crates' / 'replay' / 'data'
 ARGS = DATA.parent / 'args'
 # Also kept beside its source, where a new reader looks first.
 SHOWN = ('sample',)
-# Recordings have no source: they are kept as they were taken.
-RECORDED = 'linux61-*.trace'
+# Recordings, and traces stored with the answers of the Rust, have no source: they are kept as they are.
+SOURCELESS = ('linux61-*.trace', 'rust-*.trace')
 
 HEADER = struct.Struct('<6I')
 BLOCK = struct.Struct('<3Q10I16H2IQ16Q')
@@ -410,7 +410,7 @@ def faults(places):
         if not path.is_file() or path.read_bytes() != made:
             yield f'{shown(path)}: differs from what its source makes; run traces/make.py --all'
     for path in sorted(DATA.iterdir()):
-        if path not in places and not path.match(RECORDED):
+        if path not in places and not any(map(path.match, SOURCELESS)):
             yield f'{shown(path)}: no source makes it; remove it, or write its source'
         if path.name not in named:
             yield f'{shown(path)}: nothing replays it; name it in {shown(ARGS)}'
