@@ -53,11 +53,11 @@ fn by_port(device: &mut Device, actions: &mut Actions, list: &[Access], reply: &
     for access in list {
         match *access {
             Access::Read { offset, length } => {
-                black_box(device.read(ALL, offset, black_box(&mut reply[..length]), actions));
+                device.read(ALL, offset, black_box(&mut reply[..length]), actions);
             }
             Access::Write { offset, length, value } => {
                 let bytes = value.to_le_bytes();
-                black_box(device.write(ALL, offset, black_box(&bytes[..length]), actions));
+                device.write(ALL, offset, black_box(&bytes[..length]), actions);
             }
         }
     }
@@ -143,7 +143,7 @@ fn alone(list: &[Access], offset: u64) -> Times {
     for _ in 0..ROUNDS {
         let start = Instant::now();
         for _ in 0..READS {
-            black_box(black_box(&device).read(ALL, black_box(offset), black_box(&mut reply), &mut actions));
+            black_box(&device).read(ALL, black_box(offset), black_box(&mut reply), &mut actions);
         }
         times.port.push(start.elapsed().as_nanos() as f64 / f64::from(READS));
         let start = Instant::now();

@@ -27,7 +27,7 @@ use Rattle.mmio_v2.proofs.MmioV2Device.Laws as D′
 use Rattle.mmio_fast.specs.declared.Wrote.{Wrote}
 use Rattle.mmio_fast.proofs.Wrote as R
 use Rattle.mmio_fast.proofs.Wrote.Laws as R′
-use Rattle.dewbracket.proofs.Shape as shape
+use Rattle.mmio_lent.proofs.Shape as shape
 
 -- a struct's name, its fields' types and values, one of them, and those from one on
 abbrev nameOf : Ty → Sym

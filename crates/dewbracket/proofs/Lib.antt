@@ -1,7 +1,3 @@
--- The walks of the exports behind a lent device, and what each promise determines.
-pub mod Shape
+-- The device as the walks of `mmio_lent` see one, and what each promise determines.
 pub mod Device
-pub mod Writing
-pub mod Raising
-pub mod Reading
 pub mod Determined

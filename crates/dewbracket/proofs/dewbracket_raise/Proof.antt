@@ -1,4 +1,4 @@
--- The walk of `Raising.antt`, at the step.
+-- `mmio_lent`'s walk of a raise, at the step.
 use mathlib.Core.Path.{sym, ap}
 use mathlib.Core.List.{List}
 use Prim.Native.Nat.{ℕ}
@@ -15,7 +15,7 @@ use Rattle.mmio_fast.proofs.Same.{raise-same}
 use Rattle.mmio_fast.proofs.quick_raise.Symbol as short
 use Rattle.mmio_fast.proofs.quick_raise.Met as short-thm
 use Rattle.dewbracket.proofs.Device as dev
-use Rattle.dewbracket.proofs.Raising as walk
+use Rattle.mmio_lent.proofs.Raising as walk
 use Rattle.dewbracket.proofs.dewbracket_raise.Key.{name as key}
 use Rattle.dewbracket.proofs.dewbracket_raise.Statement as stated
 use Rattle.dewbracket.proofs.dewbracket_raise.Code as code

@@ -1,4 +1,4 @@
--- The walk of `Reading.antt`, at the step.
+-- `mmio_lent`'s walk of a read, at the step.
 use mathlib.Core.Path.{_≡_, sym, ap, _∙_}
 use mathlib.Core.List.{List}
 use Prim.Native.Nat.{ℕ}
@@ -21,7 +21,7 @@ use Rattle.mmio_fast.proofs.full_read.Symbol as long
 use Rattle.mmio_fast.proofs.full_read.Met as long-thm
 use Rattle.words.specs.Bytes.{writeLe}
 use Rattle.dewbracket.proofs.Device as dev
-use Rattle.dewbracket.proofs.Reading as walk
+use Rattle.mmio_lent.proofs.Reading as walk
 use Rattle.dewbracket.proofs.dewbracket_read.Key.{name as key}
 use Rattle.dewbracket.proofs.dewbracket_read.Statement as stated
 use Rattle.dewbracket.proofs.dewbracket_read.Code as code

@@ -1,4 +1,4 @@
--- The walk of `Writing.antt`, at the step.
+-- `mmio_lent`'s walk of a write, at the step.
 use mathlib.Core.Path.{_≡_, sym, ap}
 use mathlib.Core.List.{List}
 use Prim.Native.Nat.{ℕ}
@@ -17,7 +17,7 @@ use Rattle.mmio_fast.proofs.quick_write.Met as short-thm
 use Rattle.mmio_fast.proofs.full_write.Symbol as long
 use Rattle.mmio_fast.proofs.full_write.Met as long-thm
 use Rattle.dewbracket.proofs.Device as dev
-use Rattle.dewbracket.proofs.Writing as walk
+use Rattle.mmio_lent.proofs.Writing as walk
 use Rattle.dewbracket.proofs.dewbracket_write.Key.{name as key}
 use Rattle.dewbracket.proofs.dewbracket_write.Statement as stated
 use Rattle.dewbracket.proofs.dewbracket_write.Code as code

@@ -51,8 +51,8 @@ use Rattle.mmio_fast.specs.declared.Raised.{Raised}
 use Rattle.mmio_fast.proofs.Raised as Z
 use Rattle.mmio_fast.proofs.Raised.Laws as Z′
 use Rattle.mmio_fast.proofs.quick_raise as short
-use Rattle.dewbracket.proofs.Shape as shape
-use Rattle.dewbracket.proofs.Shape.{Lent}
+use Rattle.mmio_lent.proofs.Shape as shape
+use Rattle.mmio_lent.proofs.Shape.{Lent}
 
 module _ (L : Lent) (L′ : shape.Laws L) where
   abbrev D : RattleType
