@@ -22,7 +22,10 @@ enum {
      * (7), and nothing happens. */
     DEWBRACKET_ACTION_WORDS = 320,
     /* An outcome number by which every request is accepted. */
-    DEWBRACKET_ALL = 0xffffffffu
+    DEWBRACKET_ALL = 0xffffffffu,
+    /* The bytes that a replay must be lent: so many, and so many more for each record of the trace. */
+    DEWBRACKET_TEXT_ROOM = 128,
+    DEWBRACKET_RECORD_ROOM = 10304
 };
 
 /* The kinds of action: the first of a record's five words. The other four are its operands. */
@@ -210,6 +213,24 @@ dewbracket_answer dewbracket_pass_raise(dewbracket_device device, uint32_t bits,
 uint32_t dewbracket_driver_status(dewbracket_device device);
 dewbracket_reply dewbracket_field(dewbracket_device device, uint32_t queue, uint32_t field);
 dewbracket_standing dewbracket_held_entry(dewbracket_device device, uint32_t queue, uint32_t kind);
+
+/* Which lines a replay adds to a record's own: its actions, and the fields of the queues. */
+typedef struct {
+    bool actions;
+    bool fields;
+} dewbracket_show;
+
+/* A whole trace: the device at its end, how many bytes its text has, and whether there was room for it. */
+typedef struct {
+    dewbracket_device device;
+    size_t length;
+    bool whole;
+} dewbracket_played;
+
+/* Replays a trace from a fresh device of its configuration and writes its text to the front of `text`, as the program
+ * `replay` prints it. Of a bad trace the text is the line that names its refusal, and the device is one of zeros. With less
+ * room than the two numbers above say, nothing is written and `whole` is false. */
+dewbracket_played dewbracket_replay(const uint8_t *trace, size_t length, dewbracket_show show, uint8_t *text, size_t room);
 
 #ifdef __cplusplus
 }

@@ -70,6 +70,9 @@ begin-determined κs a r r′ s s′ p q =
 pub piece-determined : (κs : _) (a : _) (r r′ : _) (s s′ : _) → piece-promise.Post κs a r s → piece-promise.Post κs a r′ s′ → (r ≡ r′) × (now (s .1 .1 .1 .0) ≡ now (s′ .1 .1 .1 .0))
 piece-determined κs a r r′ s s′ p q = same-pieced p q
 
-pub replay-determined : (κs : _) (a : _) (r r′ : _) (s s′ : _) → replay-promise.Post κs a r s → replay-promise.Post κs a r′ s′ → (r ≡ r′) × (now (s .1 .1 .0) ≡ now (s′ .1 .1 .0))
-replay-determined κs a r r′ s s′ p q =
+pub same-replayed : {o : Show} {s l l′ l″ : List ℕ} {r r′ : Played} → Replayed o s l l′ r → Replayed o s l l″ r′ → (r ≡ r′) × (l′ ≡ l″)
+same-replayed p q =
     (same-played (p .state ∙ sym (q .state)) (p .text .moved ∙ sym (q .text .moved)) (p .whole ∙ sym (q .whole)), p .text .wrote ∙ sym (q .text .wrote))
+
+pub replay-determined : (κs : _) (a : _) (r r′ : _) (s s′ : _) → replay-promise.Post κs a r s → replay-promise.Post κs a r′ s′ → (r ≡ r′) × (now (s .1 .1 .0) ≡ now (s′ .1 .1 .0))
+replay-determined κs a r r′ s s′ p q = same-replayed p q

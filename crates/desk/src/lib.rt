@@ -26,6 +26,7 @@ pub struct Part {
 }
 
 /// A whole trace: the device at its end, how many bytes its text has, and whether there was room for it.
+#[repr(C)]
 pub struct Played {
     pub device: MmioV2Device,
     pub len: usize,

@@ -5,6 +5,7 @@ use mathlib.Core.List.{List}
 use denote.Ref.{now}
 use Prim.Native.Nat.{ℕ}
 use Rattle.mmio_v2.specs.declared.MmioV2Device.{MmioV2Device}
+use Rattle.desk.proofs.Determined.{same-replayed}
 use Rattle.mmio_fast.specs.declared.Told.{Told}
 use Rattle.dewbracket.specs.Promises.{Reads, Writes, Raises}
 use Rattle.dewbracket.proofs.dewbracket_new.Reads as new-promise
@@ -14,6 +15,7 @@ use Rattle.dewbracket.proofs.dewbracket_held_entry.Reads as held-entry-
 use Rattle.dewbracket.proofs.dewbracket_pass_read.Reads as pass-read-promise
 use Rattle.dewbracket.proofs.dewbracket_pass_write.Reads as pass-write-promise
 use Rattle.dewbracket.proofs.dewbracket_pass_raise.Reads as pass-raise-promise
+use Rattle.dewbracket.proofs.dewbracket_replay.Reads as replay-promise
 
 pub new-determined : (κs : _) (a : _) (r r′ : _) (s s′ : _) → new-promise.Post κs a r s → new-promise.Post κs a r′ s′ → r ≡ r′
 new-determined κs a r r′ s s′ p q = p ∙ sym q
@@ -35,6 +37,9 @@ pass-write-determined κs a r r′ s s′ p q = (p .0 ∙ sym (q .0), p .1 ∙ s
 
 pub pass-raise-determined : (κs : _) (a : _) (r r′ : _) (s s′ : _) → pass-raise-promise.Post κs a r s → pass-raise-promise.Post κs a r′ s′ → (r ≡ r′) × (now (s .1 .1 .0) ≡ now (s′ .1 .1 .0))
 pass-raise-determined κs a r r′ s s′ p q = (p .0 ∙ sym (q .0), p .1 ∙ sym (q .1))
+
+pub replay-determined : (κs : _) (a : _) (r r′ : _) (s s′ : _) → replay-promise.Post κs a r s → replay-promise.Post κs a r′ s′ → (r ≡ r′) × (now (s .1 .1 .0) ≡ now (s′ .1 .1 .0))
+replay-determined κs a r r′ s s′ p q = same-replayed p q
 
 module _ (d : MmioV2Device) (k o : ℕ) (x x′ x″ : List ℕ) (r r′ : Told) where
   pub read-determined : (y y′ y″ : List ℕ) → Reads d k o y y′ x x′ r → Reads d k o y y″ x x″ r′ → (r ≡ r′) × (y′ ≡ y″) × (x′ ≡ x″)

@@ -7,8 +7,10 @@ ghost use Rattle.tape.specs.Play.{laid};
 ghost use Rattle.mmio_v2.specs.Fresh.{madeDevice};
 ghost use Rattle.mmio_v2.specs.Operation.{Raise, Read, Write};
 ghost use Rattle.mmio_v2.specs.Step.{answerOf, replied, step};
+ghost use Rattle.desk.specs.Desk.{Replayed};
 ghost use Rattle.dewbracket.specs.Numbers.{askedByNumber, fieldNumbered, heldByNumber, kindNumbered};
 ghost use Rattle.dewbracket.specs.Promises.{Raises, Reads, Writes};
+use desk::Played;
 use mmio_config::Configuration;
 use mmio_fast::Told;
 use mmio_tables::Kind;
@@ -17,6 +19,7 @@ use mmio_tables::Standing;
 use mmio_v2::Answer;
 use mmio_v2::MadeDevice;
 use mmio_v2::MmioV2Device;
+use play::Show;
 use tape::Entry;
 use virtq::Field;
 use virtq::QueueIndex;
@@ -202,4 +205,14 @@ pub extern "C" fn dewbracket_raise(dev: &mut MmioV2Device, bits: u32, actions: &
     let raised = mmio_fast::quick_raise(dev.state.hot, bits, actions.len());
     dev.state.hot.interrupts = raised.bits;
     raised.told
+}
+
+// ---- a whole trace
+
+/// The text of a trace at the front of the buffer, as `desk::replay`. Nothing is written where there is too little room.
+#[no_mangle]
+pub extern "C" fn dewbracket_replay(trace: &[u8], show: Show, out: &mut [u8]) -> Played
+    ensures { λ r. ⌜ Replayed show (now (trace .entry)) (now (out .entry)) (now (out .exit)) r ⌝ }
+{
+    desk::replay(trace, show, out)
 }

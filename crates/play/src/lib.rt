@@ -25,6 +25,7 @@ use virtq::Queue;
 pub const RECORD_ROOM: usize = 10304;
 
 /// Which lines are added to a record's own.
+#[repr(C)]
 pub struct Show {
     pub actions: bool,
     pub fields: bool,

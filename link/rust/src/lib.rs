@@ -12,7 +12,7 @@
 
 mod raw;
 
-pub use raw::{Configuration, Entry, Region, Told};
+pub use raw::{Configuration, Entry, Region, Show, Told};
 
 /// An outcome number by which every request is accepted.
 pub const ALL: u32 = u32::MAX;
@@ -85,6 +85,11 @@ pub enum Kind {
     Doorbell,
     Notify,
 }
+
+/// What a replay must be lent: so many bytes, and so many more for each record, of which a good trace has at most 2,000.
+const TEXT_ROOM: usize = 128;
+const RECORD_ROOM: usize = 10304;
+const MOST_RECORDS: usize = 2000;
 
 /// The number of a refusal.
 #[derive(Clone, Copy, Debug, PartialEq, Eq)]
@@ -230,3 +235,19 @@ impl PartialEq for Device {
 }
 
 impl Eq for Device {}
+
+/// Replays a trace from a fresh device of its configuration: its text, as the program `replay` prints it, and the device at
+/// its end. A bad trace is refused by its number.
+pub fn replay(trace: &[u8], show: Show) -> Result<(String, Device), Refusal> {
+    let records = trace.get(4..8).map_or(0, |word| u32::from_le_bytes(word.try_into().unwrap()) as usize);
+    let mut text = vec![0; TEXT_ROOM + RECORD_ROOM * records.min(MOST_RECORDS)];
+    // SAFETY: as in `read`.
+    let played = unsafe { raw::dewbracket_replay(trace.as_ptr(), trace.len(), show, text.as_mut_ptr(), text.len()) };
+    assert!(played.whole, "a good trace has at most {MOST_RECORDS} records, and there is room for as many as it names");
+    text.truncate(played.length);
+    let text = String::from_utf8(text).expect("a replay writes ASCII");
+    match text.strip_prefix("bad ") {
+        Some(number) => Err(Refusal(number.trim_end().parse().expect("a number stands behind `bad`"))),
+        None => Ok((text, Device(played.device))),
+    }
+}

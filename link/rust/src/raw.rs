@@ -127,6 +127,21 @@ pub struct Standing {
     pub entry: Entry,
 }
 
+/// Which lines a replay adds to a record's own: its actions, and the fields of the queues.
+#[derive(Clone, Copy, Debug, Default, PartialEq, Eq)]
+#[repr(C)]
+pub struct Show {
+    pub actions: bool,
+    pub fields: bool,
+}
+
+#[repr(C)]
+pub struct Played {
+    pub device: Device,
+    pub length: usize,
+    pub whole: bool,
+}
+
 // The sizes that the archive's own code has.
 const _: () = {
     assert!(size_of::<Hot>() == 32);
@@ -178,4 +193,5 @@ extern "C" {
     pub fn dewbracket_driver_status(device: Device) -> u32;
     pub fn dewbracket_field(device: Device, queue: u32, field: u32) -> Reply;
     pub fn dewbracket_held_entry(device: Device, queue: u32, kind: u32) -> Standing;
+    pub fn dewbracket_replay(trace: *const u8, length: usize, show: Show, text: *mut u8, room: usize) -> Played;
 }
