@@ -10,6 +10,7 @@ use lib.ListN.{length}
 use Rattle.words.specs.Pick.{pick}
 use Rattle.words.specs.Actions.{Emitted}
 use Rattle.words.proofs.Actions.{still, then, worded, long}
+use Rattle.words.proofs.Picks.{pick-both}
 use Rattle.mmio_state.specs.State.{State}
 use Rattle.mmio_v2.specs.Fresh.{device}
 use Rattle.mmio_v2.specs.Operation.{Operation}
@@ -63,13 +64,9 @@ going-first o s l t h =
     none : (k : ℕ) → t .next ≤ k → k < t .next → ⊥
     none k a b = omega arith
 
-both : (a b : Bool) → pick a b false ≡ true → (a ≡ true) × (b ≡ true)
-both true b e = (refl, e)
-both false b e = absurd (true≢false (sym e))
-
 pub goes-on : (i n len at : ℕ) → goesOn i n len at ≡ true → (i < n) × (roomy len at ≡ true)
 unfolding goesOn
-goes-on i n len at e = let p = both (ltb i n) (roomy len at) e in (ltb-true i n (p .0), p .1)
+goes-on i n len at e = let p = pick-both (ltb i n) (roomy len at) e in (ltb-true i n (p .0), p .1)
 
 module _ {o : Show} {s : List ℕ} {d : State} {i : ℕ} {l : List ℕ} {at : ℕ} {l′ : List ℕ} {u : Part} (g : Going o s d i l at l′ u) where
   -- the room that the code sees is that before the next record

@@ -50,7 +50,7 @@ pub record Pieced (o : Show) (s : List ℕ) (t : Part) (l l′ : List ℕ) (r : 
   pub ran : mayPlay s (t .next) ≡ true → Parted o s (t .device .state) (t .next) l (t .at) l′ r
   pub kept : mayPlay s (t .next) ≡ false → (r ≡ t) × (l′ ≡ l)
 
--- the loop goes on: there is a record more, and room for it
+-- The next two are the loop's own, and no public promise cites them. It goes on: there is a record more, and room for it
 unfoldable pub goesOn : (next n len at : ℕ) → Bool
 goesOn i n len at = pick (ltb i n) (roomy len at) false
 

@@ -77,7 +77,7 @@ fn run_here(
     play::run_record(d, number(i), r, &none, show, out, at)
 }
 
-// A good trace has no other record; what stands for them is never met.
+// Every record of a good trace may run: of the three answers only the first is met.
 fn run_at(
     d: MmioV2Device,
     s: &[u8],
@@ -158,8 +158,8 @@ pub fn piece(t: Part, s: &[u8], show: Show, out: &mut [u8]) -> Part
 
 // ---- the whole
 
-/// A device of the trace's configuration, before its first record, and the heading in the buffer's front. The configuration
-/// of a bad trace gives a device of zeros.
+/// A device of the trace's configuration, before its first record, and the heading in the buffer's front. A configuration that
+/// is refused gives a device of zeros; what else may be wrong with the trace is for `verdict` to say.
 pub fn begin(s: &[u8], out: &mut [u8]) -> Part
     ensures { λ r. ⌜ Begun (now (s .entry)) (now (out .entry)) (now (out .exit)) r ⌝ }
 {
@@ -181,7 +181,7 @@ fn no_device() -> MmioV2Device
     }
 }
 
-fn has_room(s: &[u8], len: usize) -> bool
+fn is_enough(s: &[u8], len: usize) -> bool
     ensures { λ r. ⌜ r ≡ enough (now (s .entry)) len ⌝ }
 {
     if trace::verdict(s) == 0 {
@@ -195,7 +195,7 @@ fn has_room(s: &[u8], len: usize) -> bool
 pub fn replay(s: &[u8], show: Show, out: &mut [u8]) -> Played
     ensures { λ r. ⌜ Replayed show (now (s .entry)) (now (out .entry)) (now (out .exit)) r ⌝ }
 {
-    if has_room(s, out.len()) {} else {
+    if is_enough(s, out.len()) {} else {
         return Played {
             device: no_device(),
             len: 0,

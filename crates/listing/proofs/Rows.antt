@@ -11,6 +11,7 @@ use lib.ListN.{length}
 use Rattle.words.specs.Pick.{pick}
 use Rattle.words.specs.Actions.{Emitted}
 use Rattle.words.proofs.Actions.{still, then, worded, long}
+use Rattle.words.proofs.Picks.{pick-both}
 use Rattle.text.specs.Room.{room}
 use Rattle.text.proofs.Pieces.{room-left, room-means}
 use Rattle.listing.specs.Listing.{rows, actionsRoom, queuesRoom}
@@ -51,20 +52,14 @@ module _ {f : ℕ → List ℕ} {n : ℕ} {l₀ : List ℕ} {at : ℕ} {l : List
 
 pub actions-room : (n w len at : ℕ) → actionsRoom n w len at ≡ true → (n ≤ 64) × (5 * n ≤ w) × (at + 128 * n ≤ len)
 unfolding actionsRoom
-actions-room n w len at = go (leb n 64) (leb (5 * n) w) refl refl
-  where
-    go : (t u : Bool) → leb n 64 ≡ t → leb (5 * n) w ≡ u → pick t (pick u (room (128 * n) len at) false) false ≡ true → (n ≤ 64) × (5 * n ≤ w) × (at + 128 * n ≤ len)
-    go true true p q e = (leb-true n 64 p, leb-true (5 * n) w q, room-means (128 * n) len at e)
-    go true false p q e = absurd (true≢false (sym e))
-    go false u p q e = absurd (true≢false (sym e))
+actions-room n w len at e =
+    let f = pick-both (leb n 64) _ e in
+    let g = pick-both (leb (5 * n) w) _ (f .1) in
+    (leb-true n 64 (f .0), leb-true (5 * n) w (g .0), room-means (128 * n) len at (g .1))
 
 pub queues-room : (n len at : ℕ) → queuesRoom n len at ≡ true → (n ≤ 16) × (at + 128 * n ≤ len)
 unfolding queuesRoom
-queues-room n len at = go (leb n 16) refl
-  where
-    go : (t : Bool) → leb n 16 ≡ t → pick t (room (128 * n) len at) false ≡ true → (n ≤ 16) × (at + 128 * n ≤ len)
-    go true p e = (leb-true n 16 p, room-means (128 * n) len at e)
-    go false p e = absurd (true≢false (sym e))
+queues-room n len at e = let f = pick-both (leb n 16) _ e in (leb-true n 16 (f .0), room-means (128 * n) len at (f .1))
 
 -- where there is enough of it the lines are written
 pub actions-roomed : {l : List ℕ} {at n w : ℕ} {t l′ : List ℕ} {r : ℕ} → Emitted l at (pick (actionsRoom n w (length l) at) t []) l′ r

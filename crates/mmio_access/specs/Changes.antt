@@ -34,8 +34,11 @@ withInterrupts h v =
     }
 
 -- "064 clears the given interrupt bits"
+abbrev pub cleared : (bits v : ℕ) → ℕ
+cleared b v = b - bitAnd b v
+
 abbrev pub acknowledged : State → (v : ℕ) → State
-acknowledged s v = withHot s (withInterrupts (s .hot) (s .hot .interrupts - bitAnd (s .hot .interrupts) v))
+acknowledged s v = withHot s (withInterrupts (s .hot) (cleared (s .hot .interrupts) v))
 
 -- "A raise sets the given interrupt bits at any status"
 abbrev pub raised : State → (v : ℕ) → State

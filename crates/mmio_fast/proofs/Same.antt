@@ -10,19 +10,17 @@ use lib.Dec.{eqb, ltb, lit≤}
 use lib.ListN.{length}
 use Rattle.words.specs.Pick.{pick}
 use Rattle.words.specs.Bytes.{bytesOf, readLe, writeLe}
-use Rattle.registers.specs.Registers.{readAt}
-use Rattle.registers.specs.declared.ReadRegister.{ReadRegister}
 use Rattle.registers.specs.declared.ReadRegister.the-variants as R
 use Rattle.mmio_state.specs.State.{State, withHot}
 use Rattle.mmio_state.specs.Effect.{roomWords}
-use Rattle.mmio_access.specs.Changes.{withInterrupts}
-use Rattle.mmio_access.specs.Shown.{doorbellWord}
+use Rattle.mmio_access.specs.Changes.{withInterrupts, cleared}
 use Rattle.mmio_v2.specs.Operation.{Operation, Read, Write, Raise}
-use Rattle.mmio_v2.specs.Registers.{shows, wordIf, bytesShown}
+use Rattle.mmio_v2.specs.Registers.{shows}
 use Rattle.mmio_v2.specs.Step.{Outcome, refusing, operated, step, replied, answerOf}
 use Rattle.mmio_v2.specs.declared.Answer.{Answer}
 use Rattle.mmio_v2.specs.declared.MmioV2Device.{MmioV2Device}
-use Rattle.mmio_fast.specs.Quick.{whenWord, quickWrite, quickRead, quickReady, quickRaise, done, slow, cleared}
+use Rattle.mmio_v2.proofs.Found.{reply-short as short}
+use Rattle.mmio_fast.specs.Quick.{whenWord, quickWrite, quickRead, quickReady, quickRaise, done, slow}
 use Rattle.mmio_fast.specs.Tell.{tell, toldOf, wroteOf}
 use Rattle.mmio_fast.specs.declared.Told.{Told}
 use Rattle.mmio_fast.specs.declared.Wrote.{Wrote}
@@ -118,36 +116,12 @@ unfolding writeLe
 given l s v n = rw (le-leb 4 (length l) (omega arith))
 
 -- no reply is longer than four bytes
-shown-short : (s : State) (r : ReadRegister) → length (bytesShown (shows s r)) ≤ 4
-shown-short s R.MagicValue = lit≤ tt
-shown-short s R.Version = lit≤ tt
-shown-short s R.DeviceId = lit≤ tt
-shown-short s R.VendorId = lit≤ tt
-shown-short s R.DeviceFeature = lit≤ tt
-shown-short s R.QueueNumMax = lit≤ tt
-shown-short s R.QueueReady = lit≤ tt
-shown-short s R.QueueNotify = by (s .hot .doorbell)
-  where
-    by : (t : Bool) → length (bytesShown (wordIf t doorbellWord)) ≤ 4
-    by true = lit≤ tt
-    by false = lit≤ tt
-shown-short s R.InterruptStatus = lit≤ tt
-shown-short s R.Status = lit≤ tt
-shown-short s R.ShmLenLow = lit≤ tt
-shown-short s R.ShmLenHigh = lit≤ tt
-shown-short s R.ShmBaseLow = lit≤ tt
-shown-short s R.ShmBaseHigh = lit≤ tt
-shown-short s R.ConfigGeneration = lit≤ tt
-shown-short s R.MsiCsr = lit≤ tt
-shown-short s (R.Config n) = lit≤ tt
-shown-short s R.Unknown = lit≤ tt
-
 pub reply-short : (w : ℕ) (s : State) (k o l : ℕ) → length (step w s (Read k o l) .reply) ≤ 4
 reply-short w s k o l = by (ltb w roomWords)
   where
     by : (t : Bool) → length (pick t (refusing s) (operated s (Read k o l)) .reply) ≤ 4
     by true = lit≤ tt
-    by false = shown-short s (readAt o l)
+    by false = short s k o l .0
 
 -- a write has no reply
 write-mute : (w : ℕ) (s : State) (k o : ℕ) (bs : List ℕ) → length (step w s (Write k o bs) .reply) ≡ 0

@@ -1,8 +1,8 @@
 -- Which accesses the polled part alone answers, and with what (01, Registers). That each is the step stands in the laws.
 use mathlib.Core.Bool.{true, false}
 use mathlib.Core.List.{List}
-use Prim.Native.Nat.{ℕ, _-_}
-use lib.Bits.{bitAnd, bitOr}
+use Prim.Native.Nat.{ℕ}
+use lib.Bits.{bitOr}
 use lib.Dec.{eqb, ltb}
 use lib.ListN.{length}
 use Rattle.words.specs.Pick.{pick}
@@ -12,6 +12,7 @@ use Rattle.virtq.specs.declared.Field.the-variants as F
 use Rattle.mmio_hot.specs.declared.Hot.{Hot}
 use Rattle.mmio_tables.specs.Tables.{counted, fieldAt}
 use Rattle.mmio_state.specs.Effect.{roomWords}
+use Rattle.mmio_access.specs.Changes.{cleared}
 use Rattle.mmio_access.specs.Shown.{tweaked}
 use Rattle.mmio_fast.specs.Tell.{tell}
 use Rattle.mmio_fast.specs.declared.Quick.{Quick}
@@ -24,10 +25,6 @@ done v = record { value = v; done = true }
 -- any other access
 abbrev pub slow : Quick
 slow = record { value = 0; done = false }
-
--- "064 clears the given interrupt bits"
-abbrev pub cleared : (bits v : ℕ) → ℕ
-cleared b v = b - bitAnd b v
 
 -- room for the actions, then the length: else it is not done
 abbrev pub whenWord : (room length : ℕ) → Quick → Quick

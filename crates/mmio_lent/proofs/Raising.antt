@@ -52,7 +52,7 @@ use Rattle.mmio_fast.proofs.Raised as Z
 use Rattle.mmio_fast.proofs.Raised.Laws as Z′
 use Rattle.mmio_fast.proofs.quick_raise as short
 use Rattle.mmio_lent.proofs.Shape as shape
-use Rattle.mmio_lent.proofs.Shape.{Lent}
+use Rattle.mmio_lent.proofs.Shape.{hots, Lent}
 
 module _ (L : Lent) (L′ : shape.Laws L) where
   abbrev D : RattleType
@@ -66,9 +66,6 @@ module _ (L : Lent) (L′ : shape.Laws L) where
 
   abbrev val : L .Denot → Val
   val = shape.val L
-
-  abbrev hots : Hot → List Val
-  hots = LL.vals O.the-type O′.the-laws
 
   -- the export's signature
   abbrev pub lent : Ended

@@ -60,7 +60,7 @@ use Rattle.mmio_fast.proofs.quick_read as short
 use Rattle.mmio_fast.proofs.quick_ready as table
 use Rattle.mmio_fast.proofs.give as give
 use Rattle.mmio_lent.proofs.Shape as shape
-use Rattle.mmio_lent.proofs.Shape.{Lent, is-true}
+use Rattle.mmio_lent.proofs.Shape.{hots, Lent, is-true}
 
 module _ (L : Lent) (L′ : shape.Laws L) where
   abbrev D : RattleType
@@ -74,9 +74,6 @@ module _ (L : Lent) (L′ : shape.Laws L) where
 
   abbrev val : L .Denot → Val
   val = shape.val L
-
-  abbrev hots : Hot → List Val
-  hots = LL.vals O.the-type O′.the-laws
 
   -- the signatures of the export and of the long function
   abbrev pub lent : Ended

@@ -1,6 +1,6 @@
 -- A device of which only this is said: its polled part comes first, then its configuration, and after two more parts its
--- queues; what else there is has some types and some values. The walks of the exports are over any such device, so that they never meet the device's other parts, which would
--- make their check too long.
+-- queues; what else there is has some types and some values. The walks of the exports are over any such device, so that they
+-- never meet the device's other parts, which would make their check too long.
 use mathlib.Core.Bool.{Bool, true, false}
 use mathlib.Core.Path.{_≡_, refl}
 use mathlib.Core.List.{List, [], _∷_}
@@ -32,6 +32,10 @@ use Rattle.mmio_access.specs.Changes.{withInterrupts}
 use Rattle.mmio_fast.specs.declared.Told.{Told}
 use Rattle.mmio_fast.proofs.Told as K
 use Rattle.mmio_fast.proofs.Told.Laws as K′
+
+-- the polled part's values
+abbrev pub hots : Hot → List Val
+hots = LL.vals O.the-type O′.the-laws
 
 pub record Lent : Type 2 where
   pub Denot : Type 0

@@ -55,7 +55,7 @@ use Rattle.mmio_fast.proofs.Quick as Q
 use Rattle.mmio_fast.proofs.Quick.Laws as Q′
 use Rattle.mmio_fast.proofs.quick_write as short
 use Rattle.mmio_lent.proofs.Shape as shape
-use Rattle.mmio_lent.proofs.Shape.{Lent, Wrote, is-true}
+use Rattle.mmio_lent.proofs.Shape.{hots, Lent, Wrote, is-true}
 
 module _ (L : Lent) (L′ : shape.Laws L) (R : Wrote L) (R′ : shape.Wrote-laws L R) where
   abbrev D : RattleType
@@ -69,9 +69,6 @@ module _ (L : Lent) (L′ : shape.Laws L) (R : Wrote L) (R′ : shape.Wrote-laws
 
   abbrev val : L .Denot → Val
   val = shape.val L
-
-  abbrev hots : Hot → List Val
-  hots = LL.vals O.the-type O′.the-laws
 
   -- the signatures of the export and of the long function
   abbrev pub lent : Ended

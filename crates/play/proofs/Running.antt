@@ -12,6 +12,7 @@ use lib.Seq.{sets, length-sets}
 use Rattle.words.specs.Pick.{pick}
 use Rattle.words.specs.Actions.{Emitted, wordsOfAll}
 use Rattle.words.proofs.Actions.{still, worded}
+use Rattle.words.proofs.Picks.{pick-both}
 use Rattle.tape.specs.Play.{laid}
 use Rattle.mmio_state.specs.State.{State, queuesIn}
 use Rattle.mmio_v2.specs.Fresh.{device}
@@ -90,22 +91,15 @@ pub runs-not : (r : Record) (len at : ℕ) → mayRun r ≡ false → runs r len
 unfolding runs
 runs-not r len at e = rw e
 
-first : (t u : Bool) → pick t u false ≡ true → (t ≡ true) × (u ≡ true)
-first true u e = (refl, e)
-first false u e = absurd (true≢false (sym e))
-
 pub may-short : (r : Record) → mayRun r ≡ true → r .len ≤ 4096
 unfolding mayRun
-may-short r e = leb-true (r .len) 4096 (first (kindGood r) _ e .1)
+may-short r e = leb-true (r .len) 4096 (pick-both (kindGood r) _ e .1)
 
 -- neither a read nor a write: the bits of a raise are below 2^32
 pub may-raise : (r : Record) → mayRun r ≡ true → (r .kind ≡ 1 → ⊥) → (r .kind ≡ 2 → ⊥) → r .place < 0x1_0000_0000
 unfolding mayRun
-may-raise r e f g = go (eqb (r .kind) 3) (rw (ne-eqb (r .kind) 1 f, ne-eqb (r .kind) 2 g) at (first (kindGood r) _ e .0))
-  where
-    go : (t : Bool) → pick t (ltb (r .place) (2 ^ 32)) false ≡ true → r .place < 0x1_0000_0000
-    go true h = ltb-true (r .place) (2 ^ 32) h
-    go false h = absurd (true≢false (sym h))
+may-raise r e f g =
+    ltb-true (r .place) (2 ^ 32) (pick-both (eqb (r .kind) 3) _ (rw (ne-eqb (r .kind) 1 f, ne-eqb (r .kind) 2 g) at (pick-both (kindGood r) _ e .0)) .1)
 
 module _ (r : Record) (bs : List ℕ) where
   pub is-read : r .kind ≡ 1 → operationOf r bs ≡ Read (r .k) (r .place) (r .len)

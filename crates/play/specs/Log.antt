@@ -18,8 +18,8 @@ operationOf r bs =
     pick (eqb (r .kind) 1) (Read (r .k) (r .place) (r .len))
     (pick (eqb (r .kind) 2) (Write (r .k) (r .place) bs) (Raise (r .place)))
 
--- it may run, wherever a write's bytes come from: its kind is 1 to 3, raise bits are below 2^32, and a read's length at most
--- 4,096
+-- it may run, wherever a write's bytes come from: its kind is 1 to 3, raise bits are below 2^32, and the length it names is at
+-- most 4,096, whatever its kind
 unfoldable pub mayRun : Record → Bool
 mayRun r = pick (kindGood r) (leb (r .len) 4096) false
 

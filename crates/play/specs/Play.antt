@@ -33,7 +33,7 @@ pub record Runs (yes : Bool) (o : Show) (number : ℕ) (s : State) (op : Operati
   pub text : Emitted l at (pick yes (outcomeText o number (operated s op)) []) l′ (r .at)
   pub small : r .at ≤ at + 10304
 
--- an answer, told with its reply and its action words
+-- an answer, told with its reply and its action words; no public promise cites it
 pub record Told (o : Show) (number : ℕ) (a : Answer) (reply w : List ℕ) (l : List ℕ) (at : ℕ) (l′ : List ℕ) (r : Ran) : Type 0 where
   pub ran : r .ran ≡ true
   pub device-is : r .device ≡ a .device

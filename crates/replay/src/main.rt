@@ -135,6 +135,7 @@ fn with_option(word: &[u8], w: Wanted) -> Wanted {
         return next;
     }
     refuse_option(word);
+    // Whoever mistyped an option is not left waiting for standard input.
     next.named = true;
     next
 }

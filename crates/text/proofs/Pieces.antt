@@ -10,6 +10,7 @@ use lib.Dec.{leb}
 use lib.ListN.{length, take, getD}
 use lib.Seq.{take-suc}
 use Rattle.words.specs.Pick.{pick}
+use Rattle.words.proofs.Picks.{pick-both}
 use Rattle.text.specs.Numerals.{pair, pairs}
 use Rattle.text.specs.Lines.{replyText}
 use Rattle.text.specs.Room.{room, recordRoom}
@@ -67,8 +68,4 @@ reply-short k len at h = rw (le-leb k 8 h)
 
 pub record-room-means : (k len at : ℕ) → recordRoom k len at ≡ true → (k ≤ 8) × (at + 64 ≤ len)
 unfolding recordRoom
-record-room-means k len at h = go (leb k 8) refl h
-  where
-    go : (t : Bool) → leb k 8 ≡ t → pick t (room 64 len at) false ≡ true → (k ≤ 8) × (at + 64 ≤ len)
-    go true e q = (leb-true k 8 e, room-means 64 len at q)
-    go false e q = absurd (true≢false (sym q))
+record-room-means k len at h = let f = pick-both (leb k 8) _ h in (leb-true k 8 (f .0), room-means 64 len at (f .1))

@@ -8,6 +8,7 @@ use borrow.Author.Tests.{eqb-true, eqb-false, ne-eqb, leb-true, lt-ltb, le-ltb}
 use lib.Dec.{eqb, leb, ltb}
 use lib.ListN.{length}
 use Rattle.words.specs.Pick.{pick}
+use Rattle.words.proofs.Picks.{pick-both}
 use Rattle.mmio_v2.specs.Fresh.{refusal}
 use Rattle.trace.specs.Numbers.{wordAt}
 use Rattle.trace.specs.Form.{knownVersion, blockPlace, recordsPlace, poolPlace}
@@ -16,14 +17,6 @@ use Rattle.trace.specs.Verdict.{count, poolLength, counted, laid, layout
 use Rattle.trace.specs.declared.Next.the-variants.{End, Bad, One}
 
 -- ---- a layout with nothing wrong
-
-first : (t u : Bool) → pick t u false ≡ true → t ≡ true
-first true u e = refl
-first false u e = absurd (true≢false (sym e))
-
-second : (t u : Bool) → pick t u false ≡ true → u ≡ true
-second true u e = e
-second false u e = absurd (true≢false (sym e))
 
 laid-out : (s : List ℕ) → layoutOf s ≡ 0 → laid s ≡ true
 unfolding layoutOf
@@ -40,16 +33,16 @@ laid-out s e = right (ltb (length s) 24) (ltb 65536 (length s)) (knownVersion (w
     right false false false d e = absurd (no e (omega arith))
 
 pub laid-few : (s : List ℕ) → layoutOf s ≡ 0 → count s ≤ 2000
-laid-few s e = leb-true (count s) 2000 (first (leb (count s) 2000) _ (laid-out s e))
+laid-few s e = leb-true (count s) 2000 (pick-both (leb (count s) 2000) _ (laid-out s e) .0)
 
 -- the pool ends where the bytes do
 pub laid-whole : (s : List ℕ) → layoutOf s ≡ 0 → poolPlace (count s) + poolLength s ≡ length s
 laid-whole s e =
     eqb-true (poolPlace (count s) + poolLength s) (length s)
-    (second (eqb (wordAt s 16) (poolPlace (count s))) _
-    (second (eqb (wordAt s 12) recordsPlace) _
-    (second (eqb (wordAt s 8) blockPlace) _
-    (second (leb (count s) 2000) _ (laid-out s e)))))
+    (pick-both (eqb (wordAt s 16) (poolPlace (count s))) _
+    (pick-both (eqb (wordAt s 12) recordsPlace) _
+    (pick-both (eqb (wordAt s 8) blockPlace) _
+    (pick-both (leb (count s) 2000) _ (laid-out s e) .1) .1) .1) .1)
 
 -- ---- the records, one by one
 

@@ -10,6 +10,10 @@ use lib.Seq.{sets}
 use lib.Arith.{mod-mul}
 use Rattle.words.specs.Bytes.{bytesOf, numberAt, readLe, writeLe}
 
+pub length-bytes : (w v : ℕ) → length (bytesOf w v) ≡ w
+length-bytes zero v = refl
+length-bytes (suc w) v = ap suc (length-bytes w _)
+
 -- the w bytes of v from the byte that counts p on, as the code writes them out
 abbrev pub bytesFrom : (w v p : ℕ) → List ℕ
 bytesFrom zero v p = []

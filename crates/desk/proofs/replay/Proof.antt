@@ -6,20 +6,20 @@ use borrow.Author.Needs.{needs}
 use Rattle.desk.proofs.replay.Statement.{statement}
 use Rattle.desk.proofs.replay.Tie as tie
 
-has-room-requires : tie.Need-has-room-requires
-has-room-requires c κs = search needs
+is-enough-requires : tie.Need-is-enough-requires
+is-enough-requires c κs = search needs
 
 no-device-requires : tie.Need-no-device-requires
 no-device-requires c κs = search needs
 
 returns : tie.Need-returns
-returns c = rw (c .no-device .ensures) (none-told _ _ _ (sym (c .before .before .has-room .ensures) ∙ c .before .if1 .left))
+returns c = rw (c .no-device .ensures) (none-told _ _ _ (sym (c .before .before .is-enough .ensures) ∙ c .before .if1 .left))
 
 verdict-requires : tie.Need-verdict-requires
 verdict-requires c κs = search needs
 
 run-all-requires : tie.Need-run-all-requires
-run-all-requires c κs = (accepted-good (now (c .before .before .before .before .before .before .before .args .s)) (sym (c .before .before .verdict .ensures) ∙ c .before .if2 .taken), sym (c .before .before .before .before .has-room .ensures) ∙ c .before .before .before .if1 .taken)
+run-all-requires c κs = (accepted-good (now (c .before .before .before .before .before .before .before .args .s)) (sym (c .before .before .verdict .ensures) ∙ c .before .if2 .taken), sym (c .before .before .before .before .is-enough .ensures) ∙ c .before .before .before .if1 .taken)
 
 same-length : tie.Need-same-length
 same-length c = search needs
@@ -37,13 +37,13 @@ same-length-2 : tie.Need-same-length-2
 same-length-2 c = search needs
 
 returns-3 : tie.Need-returns-3
-returns-3 c = rw (c .no-device2 .ensures) (bad-told (c .before .before .before .before .before .before .before .before .before .before .before .args .show) (now (c .before .before .before .before .before .before .before .before .before .before .before .args .s)) (now (c .before .before .before .before .before .before .before .before .before .before .before .args .out)) (c .before .before .before .before .before .before .verdict .result) _ _ (sym (c .before .before .before .before .before .before .before .before .has-room .ensures) ∙ c .before .before .before .before .before .before .before .if1 .taken) (c .before .before .before .before .before .before .verdict .ensures) (c .before .before .before .before .before .if2 .left) (c .before .before .before .bad .ensures .0))
+returns-3 c = rw (c .no-device2 .ensures) (bad-told (c .before .before .before .before .before .before .before .before .before .before .before .args .show) (now (c .before .before .before .before .before .before .before .before .before .before .before .args .s)) (now (c .before .before .before .before .before .before .before .before .before .before .before .args .out)) (c .before .before .before .before .before .before .verdict .result) _ _ (sym (c .before .before .before .before .before .before .before .before .is-enough .ensures) ∙ c .before .before .before .before .before .before .before .if1 .taken) (c .before .before .before .before .before .before .verdict .ensures) (c .before .before .before .before .before .if2 .left) (c .before .before .before .bad .ensures .0))
 
 pub replay-spec : {M : Type 1} → statement M
 replay-spec =
     tie.close
     (tie.spec
-    has-room-requires
+    is-enough-requires
     no-device-requires
     returns
     verdict-requires

@@ -3,8 +3,8 @@ use mathlib.Core.Path.{sym, _∙_}
 use denote.Ref.{now}
 use native.Mathlib.Omega.{arith}
 use borrow.Author.Needs.{needs}
-use Rattle.desk.proofs.has_room.Statement.{statement}
-use Rattle.desk.proofs.has_room.Tie as tie
+use Rattle.desk.proofs.is_enough.Statement.{statement}
+use Rattle.desk.proofs.is_enough.Tie as tie
 
 verdict-requires : tie.Need-verdict-requires
 verdict-requires c κs = search needs
@@ -24,6 +24,6 @@ returns c = room-good (now (c .before .before .before .before .args .s)) (c .cou
 returns-2 : tie.Need-returns-2
 returns-2 c = room-bad (now (c .before .before .before .args .s)) (c .before .verdict .result) (c .before .before .before .args .len) (c .before .verdict .ensures) (c .if1 .left)
 
-pub has-room-spec : {M : Type 1} → statement M
-has-room-spec =
+pub is-enough-spec : {M : Type 1} → statement M
+is-enough-spec =
     tie.close (tie.spec verdict-requires count-requires mul-result add-result returns returns-2)
