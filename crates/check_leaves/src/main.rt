@@ -2,7 +2,7 @@
 //! the answers in that order; it is held to the file `stdout`.
 
 use dragonball::DoorBell;
-use dragonball::Msi;
+use msi::Msi;
 use registers::ReadRegister;
 use registers::WriteRegister;
 use show::dec;
@@ -182,6 +182,13 @@ fn command(v: u16) {
     dec(m.argument as u64);
 }
 
+fn message(m: Msi) {
+    dec(m.index_select as u64);
+    dec(m.address_low as u64);
+    dec(m.address_high as u64);
+    dec(m.data as u64);
+}
+
 fn messages() {
     say(b"\ncommands 0x1002, 0x0001, 0x3fff, 0xffff:");
     command(0x1002);
@@ -194,10 +201,19 @@ fn messages() {
         .with_address_low(2)
         .with_address_high(3)
         .with_data(4);
-    dec(m.index_select as u64);
-    dec(m.address_low as u64);
-    dec(m.address_high as u64);
-    dec(m.data as u64);
+    message(m);
+    say(b"\nits copies lent, each word alone set to 5:");
+    message(m.staged_index_select(5));
+    message(m.staged_address_low(5));
+    message(m.staged_address_high(5));
+    message(m.staged_data(5));
+    say(b"\none after the other, data first, the largest and 6, 7, 8; and the first stage:");
+    let n = m.staged_data(0xffff_ffff)
+        .staged_index_select(6)
+        .staged_address_low(7)
+        .staged_address_high(8);
+    message(n);
+    message(m);
 }
 
 fn read_name(r: ReadRegister) -> u64 {

@@ -5,11 +5,6 @@ use Rattle.dragonball.proofs.DoorBell.offset.Reads as offset-promise
 use Rattle.dragonball.proofs.DoorBell.scale.Reads as scale-promise
 use Rattle.dragonball.proofs.DoorBell.queue_offset.Reads as queue-offset-promise
 use Rattle.dragonball.proofs.DoorBell.register_data.Reads as register-data-promise
-use Rattle.dragonball.proofs.Msi.default.Reads as default-promise
-use Rattle.dragonball.proofs.Msi.with_index_select.Reads as with-index-select-promise
-use Rattle.dragonball.proofs.Msi.with_address_low.Reads as with-address-low-promise
-use Rattle.dragonball.proofs.Msi.with_address_high.Reads as with-address-high-promise
-use Rattle.dragonball.proofs.Msi.with_data.Reads as with-data-promise
 use Rattle.dragonball.proofs.msi_command.Reads as msi-command-promise
 use Rattle.dragonball.proofs.device_vendor.Reads as device-vendor-promise
 use Rattle.dragonball.proofs.doorbell_enabled.Reads as doorbell-enabled-promise
@@ -31,21 +26,6 @@ queue-offset-determined κs a r r′ s s′ p q = p ∙ sym q
 
 pub register-data-determined : (κs : _) (a : _) (r r′ : _) (s s′ : _) → register-data-promise.Post κs a r s → register-data-promise.Post κs a r′ s′ → r ≡ r′
 register-data-determined κs a r r′ s s′ p q = p ∙ sym q
-
-pub default-determined : (κs : _) (a : _) (r r′ : _) (s s′ : _) → default-promise.Post κs a r s → default-promise.Post κs a r′ s′ → r ≡ r′
-default-determined κs a r r′ s s′ p q = p ∙ sym q
-
-pub with-index-select-determined : (κs : _) (a : _) (r r′ : _) (s s′ : _) → with-index-select-promise.Post κs a r s → with-index-select-promise.Post κs a r′ s′ → r ≡ r′
-with-index-select-determined κs a r r′ s s′ p q = p ∙ sym q
-
-pub with-address-low-determined : (κs : _) (a : _) (r r′ : _) (s s′ : _) → with-address-low-promise.Post κs a r s → with-address-low-promise.Post κs a r′ s′ → r ≡ r′
-with-address-low-determined κs a r r′ s s′ p q = p ∙ sym q
-
-pub with-address-high-determined : (κs : _) (a : _) (r r′ : _) (s s′ : _) → with-address-high-promise.Post κs a r s → with-address-high-promise.Post κs a r′ s′ → r ≡ r′
-with-address-high-determined κs a r r′ s s′ p q = p ∙ sym q
-
-pub with-data-determined : (κs : _) (a : _) (r r′ : _) (s s′ : _) → with-data-promise.Post κs a r s → with-data-promise.Post κs a r′ s′ → r ≡ r′
-with-data-determined κs a r r′ s s′ p q = p ∙ sym q
 
 pub msi-command-determined : (κs : _) (a : _) (r r′ : _) (s s′ : _) → msi-command-promise.Post κs a r s → msi-command-promise.Post κs a r′ s′ → r ≡ r′
 msi-command-determined κs a r r′ s s′ p q = p ∙ sym q

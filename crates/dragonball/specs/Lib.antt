@@ -1,4 +1,4 @@
--- The Dragonball extension: the vendor word, the doorbell, the staged message, the message command; and a region's base.
+-- The Dragonball extension: the vendor word, the doorbell, the message command; and a region's base.
 pub mod Vendor
 pub mod DoorBell
 pub mod Messages

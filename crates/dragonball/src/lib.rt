@@ -3,7 +3,7 @@
 // Copyright (C) 2019 Alibaba Cloud. All rights reserved.
 // SPDX-License-Identifier: Apache-2.0 or BSD-3-Clause
 //
-// From src/mmio/mmio_state.rs and src/mmio/mmio_v2.rs, the functions after `Msi`:
+// From src/mmio/mmio_state.rs and src/mmio/mmio_v2.rs, the functions after `DoorBell`:
 //
 // Copyright (C) 2019 Alibaba Cloud Computing. All rights reserved.
 // SPDX-License-Identifier: Apache-2.0 AND BSD-3-Clause
@@ -15,7 +15,7 @@ ghost use Prim.Native.Nat.{ℕ, _<_};
 ghost use Rattle.words.specs.Pick.{pick};
 ghost use Rattle.dragonball.specs.Vendor.{featureBits, freshDoorbell, vendorWord};
 ghost use Rattle.dragonball.specs.DoorBell.{doorBell, queueOffset, registerData};
-ghost use Rattle.dragonball.specs.Messages.{commandOf, noMessage, withAddressHigh, withAddressLow, withData, withIndexSelect};
+ghost use Rattle.dragonball.specs.Messages.{commandOf};
 ghost use Rattle.dragonball.specs.Regions.{highWord, lowWord, regionBase};
 use virtq::QueueIndex;
 
@@ -162,61 +162,6 @@ impl DoorBell {
         ensures { λ r. ⌜ r ≡ registerData self ⌝ }
     {
         self.offset | (self.scale << 16)
-    }
-}
-
-/// MSI interrupts.
-#[repr(C)]
-pub struct Msi {
-    pub index_select: u32,
-    pub address_low: u32,
-    pub address_high: u32,
-    pub data: u32,
-}
-
-impl Msi {
-    /// A message of zeros.
-    pub fn default() -> Self
-        ensures { λ r. ⌜ r ≡ noMessage ⌝ }
-    {
-        Msi {
-            index_select: 0,
-            address_low: 0,
-            address_high: 0,
-            data: 0,
-        }
-    }
-
-    /// Sets index select.
-    pub fn with_index_select(mut self, v: u32) -> Self
-        ensures { λ r. ⌜ r ≡ withIndexSelect self v ⌝ }
-    {
-        self.index_select = v;
-        self
-    }
-
-    /// Sets address low.
-    pub fn with_address_low(mut self, v: u32) -> Self
-        ensures { λ r. ⌜ r ≡ withAddressLow self v ⌝ }
-    {
-        self.address_low = v;
-        self
-    }
-
-    /// Sets address high.
-    pub fn with_address_high(mut self, v: u32) -> Self
-        ensures { λ r. ⌜ r ≡ withAddressHigh self v ⌝ }
-    {
-        self.address_high = v;
-        self
-    }
-
-    /// Sets msi data.
-    pub fn with_data(mut self, v: u32) -> Self
-        ensures { λ r. ⌜ r ≡ withData self v ⌝ }
-    {
-        self.data = v;
-        self
     }
 }
 

@@ -10,7 +10,7 @@ use Rattle.registers.specs.Registers.{writeAt}
 use Rattle.registers.specs.declared.WriteRegister.{WriteRegister}
 use Rattle.registers.specs.declared.WriteRegister.the-variants as W
 use Rattle.virtq.specs.declared.Field.{Field}
-use Rattle.dragonball.specs.declared.Msi.{Msi}
+use Rattle.msi.specs.declared.Msi.{Msi}
 use Rattle.mmio_hot.specs.Commands.{csrOf, commandAt}
 use Rattle.mmio_hot.specs.declared.Csr.{Csr}
 use Rattle.mmio_hot.specs.declared.Csr.the-variants.{Locked, Stay, Turn}

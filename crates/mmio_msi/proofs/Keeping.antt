@@ -9,8 +9,8 @@ use lib.Dec.{eqb}
 use lib.ListN.{getD, set}
 use lib.Seq.{getD-set-other}
 use Rattle.words.specs.Pick.{pick}
-use Rattle.dragonball.specs.Messages.{noMessage, withIndexSelect}
-use Rattle.dragonball.specs.declared.Msi.{Msi}
+use Rattle.msi.specs.Stage.{noMessage, withIndexSelect}
+use Rattle.msi.specs.declared.Msi.{Msi}
 use Rattle.mmio_config.specs.Fresh.{maxVectors, noVector}
 use Rattle.mmio_tables.specs.Tables.{updatable, vectorAt, stored, storedAt, remasked, maskedAt}
 use Rattle.mmio_hot.specs.Commands.{csrOf, commandAt}

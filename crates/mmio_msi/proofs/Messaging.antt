@@ -4,8 +4,8 @@ use mathlib.Core.Path.{_≡_}
 use mathlib.Core.List.{List}
 use Prim.Native.Nat.{ℕ, _%_, _^_, _<_}
 use native.Mathlib.Omega.{arith}
-use Rattle.dragonball.specs.Messages.{withIndexSelect}
-use Rattle.dragonball.specs.declared.Msi.{Msi}
+use Rattle.msi.specs.Stage.{withIndexSelect}
+use Rattle.msi.specs.declared.Msi.{Msi}
 use Rattle.mmio_tables.specs.Tables.{vectorAt, storedAt}
 use Rattle.mmio_config.specs.declared.Vector.{Vector}
 use Rattle.mmio_state.specs.State.{State, withVectors}

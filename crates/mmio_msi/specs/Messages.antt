@@ -6,8 +6,8 @@ use lib.Dec.{eqb}
 use lib.ListN.{getD}
 use Rattle.words.specs.Pick.{pick}
 use Rattle.words.specs.declared.Action.{Action}
-use Rattle.dragonball.specs.Messages.{noMessage, withIndexSelect}
-use Rattle.dragonball.specs.declared.Msi.{Msi}
+use Rattle.msi.specs.Stage.{noMessage, withIndexSelect}
+use Rattle.msi.specs.declared.Msi.{Msi}
 use Rattle.tape.specs.Actions.{setMode, updateVector, maskVector, unmaskVector}
 use Rattle.mmio_hot.specs.Polled.{withMode}
 use Rattle.mmio_config.specs.Fresh.{noVector}

@@ -10,14 +10,13 @@ ghost use mathlib.Core.List.{[], _∷_};
 ghost use Prim.Native.Nat.{_%_, _^_, _<_, _≤_};
 ghost use lib.ListN.{length};
 ghost use Rattle.words.specs.Pick.{pick};
-ghost use Rattle.dragonball.specs.Messages.{withAddressHigh, withAddressLow, withData};
+ghost use Rattle.msi.specs.Stage.{withAddressHigh, withAddressLow, withData};
 ghost use Rattle.tape.specs.Actions.{act, setMode};
 ghost use Rattle.tape.specs.Play.{laid};
 ghost use Rattle.mmio_tables.specs.Tables.{updatable, vectorAt};
 ghost use Rattle.mmio_state.specs.State.{withVectors};
 ghost use Rattle.mmio_state.specs.Effect.{done, ended, written};
 ghost use Rattle.mmio_msi.specs.Messages.{asksMask, commanded, commanding, controlled, enabling, masking, staged, turned, updatedState};
-use dragonball::Msi;
 use mmio_config::Config;
 use mmio_config::MAX_VECTORS;
 use mmio_config::Vector;
@@ -26,6 +25,7 @@ use mmio_hot::Csr;
 use mmio_state::ACTION_WORDS;
 use mmio_state::Done;
 use mmio_state::MmioV2DeviceState;
+use msi::Msi;
 use tape::ACTION_MASK;
 use tape::ACTION_MODE;
 use tape::ACTION_UNMASK;
@@ -132,7 +132,7 @@ fn update_state(s: MmioV2DeviceState, v: VectorIndex) -> MmioV2DeviceState
 {
     if heeded(s.config.dataqueues, s.hot.msi, v) {
         let stage = s.stage;
-        let m = stage.with_index_select(index_of(v));
+        let m = stage.staged_index_select(index_of(v));
         let vectors = s.vectors;
         if mmio_tables::vector_exists(v, s.config.vectors) {
             return with_vectors(s, m, mmio_tables::store_at(vectors, v, m));
@@ -234,7 +234,7 @@ pub fn set_msi_address_low(s: MmioV2DeviceState, v: u32) -> MmioV2DeviceState
     ensures { λ r. ⌜ r ≡ staged s (withAddressLow (s .stage) v) ⌝ }
 {
     let stage = s.stage;
-    staged(s, stage.with_address_low(v))
+    staged(s, stage.staged_address_low(v))
 }
 
 /// The high half of the staged address: kept only while MSI is on.
@@ -242,7 +242,7 @@ pub fn set_msi_address_high(s: MmioV2DeviceState, v: u32) -> MmioV2DeviceState
     ensures { λ r. ⌜ r ≡ staged s (withAddressHigh (s .stage) v) ⌝ }
 {
     let stage = s.stage;
-    staged(s, stage.with_address_high(v))
+    staged(s, stage.staged_address_high(v))
 }
 
 /// The staged data: kept only while MSI is on.
@@ -250,7 +250,7 @@ pub fn set_msi_data(s: MmioV2DeviceState, v: u32) -> MmioV2DeviceState
     ensures { λ r. ⌜ r ≡ staged s (withData (s .stage) v) ⌝ }
 {
     let stage = s.stage;
-    staged(s, stage.with_data(v))
+    staged(s, stage.staged_data(v))
 }
 
 /// The interrupt mode: 0c0.

@@ -4,7 +4,7 @@ use mathlib.Core.List.{List}
 use Prim.Native.Nat.{ℕ}
 use Rattle.words.specs.Pick.{pick}
 use Rattle.words.specs.declared.Action.{Action}
-use Rattle.dragonball.specs.Messages.{noMessage}
+use Rattle.msi.specs.Stage.{noMessage}
 use Rattle.tape.specs.Held.{heldAfter}
 use Rattle.tape.specs.declared.Held.{Held}
 use Rattle.activation.specs.Requests.{startRecords, begins, stopRecords, stops}

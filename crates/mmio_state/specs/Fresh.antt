@@ -4,7 +4,7 @@ use lib.Dec.{eqb}
 use lib.ListN.{replicate}
 use Rattle.words.specs.Pick.{pick}
 use Rattle.virtq.specs.Index.{maxQueues}
-use Rattle.dragonball.specs.Messages.{noMessage}
+use Rattle.msi.specs.Stage.{noMessage}
 use Rattle.tape.specs.Held.{noHeld}
 use Rattle.mmio_config.specs.Fresh.{accepted, freshHot, freshQueues, noConfig, noFlags, noVectors, refusalOf}
 use Rattle.mmio_config.specs.declared.Configuration.{Configuration}

@@ -6,7 +6,7 @@ use Prim.Native.Nat.{ℕ, _-_, _^_, _≤_}
 use lib.ListN.{getD}
 use Rattle.virtq.specs.Index.{maxQueues}
 use Rattle.virtq.specs.Fields.{noQueue}
-use Rattle.dragonball.specs.Messages.{noMessage}
+use Rattle.msi.specs.Stage.{noMessage}
 use Rattle.tape.specs.Held.{noHeld}
 use Rattle.mmio_config.specs.Fresh.{maxVectors, maxRegions, noVector}
 use Rattle.mmio_state.specs.State.{State}

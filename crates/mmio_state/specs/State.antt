@@ -2,7 +2,7 @@
 use mathlib.Core.List.{List}
 use Prim.Native.Nat.{ℕ}
 use Rattle.virtq.specs.declared.Queue.{Queue}
-use Rattle.dragonball.specs.declared.Msi.{Msi}
+use Rattle.msi.specs.declared.Msi.{Msi}
 use Rattle.mmio_hot.specs.Polled.{failed, withStatus}
 use Rattle.mmio_tables.specs.Tables.{counted}
 use Rattle.mmio_hot.specs.declared.Hot.{Hot}

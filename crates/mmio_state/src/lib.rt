@@ -16,7 +16,6 @@ ghost use Rattle.mmio_state.specs.Effect.{done, ended, quiet, refused, w
 ghost use Rattle.mmio_state.specs.Fresh.{begun, made, noHot, noState};
 ghost use Rattle.mmio_state.specs.Activation.{activating, queuesValid, resetting, settled, started, wiped};
 ghost use Rattle.mmio_state.specs.Fields.{acking, asked, askedHeld, fieldWritten, offered, selectedMax, selectedReady, selectedRegion};
-use dragonball::Msi;
 use mmio_config::Config;
 use mmio_config::Configuration;
 use mmio_config::Flags;
@@ -27,6 +26,7 @@ use mmio_tables::Found;
 use mmio_tables::Kind;
 use mmio_tables::Reply;
 use mmio_tables::Standing;
+use msi::Msi;
 use tape::ACTION_ACKED_FEATURES;
 use tape::Held;
 use tape::Tape;

@@ -15,7 +15,7 @@ use Rattle.virtq.specs.declared.Memory.{Memory}
 use Rattle.virtq.specs.declared.Queue.{Queue}
 use Rattle.virtq.specs.declared.QueueIndex.{QueueIndex}
 use Rattle.virtq.specs.declared.Scan.the-variants.{All, At}
-use Rattle.dragonball.specs.declared.Msi.{Msi}
+use Rattle.msi.specs.declared.Msi.{Msi}
 use Rattle.mmio_config.specs.declared.Vector.{Vector}
 use Rattle.mmio_config.specs.Fresh.{noVector}
 use Rattle.mmio_tables.specs.Tables.{validAll, someBelow, updatable, stored, storedAt, remasked, maskedAt}

@@ -15,7 +15,7 @@ use Rattle.virtq.specs.declared.Memory.{Memory}
 use Rattle.virtq.specs.declared.Queue.{Queue}
 use Rattle.virtq.specs.declared.Scan.{Scan}
 use Rattle.virtq.specs.declared.Scan.the-variants.{All, At}
-use Rattle.dragonball.specs.declared.Msi.{Msi}
+use Rattle.msi.specs.declared.Msi.{Msi}
 use Rattle.tape.specs.Held.{bell, note, entry, noHeld}
 use Rattle.tape.specs.declared.Entry.{Entry}
 use Rattle.tape.specs.declared.Held.{Held}

@@ -6,7 +6,7 @@ use lib.Dec.{eqb}
 use Rattle.words.specs.Pick.{pick}
 use Rattle.words.specs.Bytes.{bytesOf}
 use Rattle.words.specs.declared.Action.{Action}
-use Rattle.dragonball.specs.Messages.{withAddressLow, withAddressHigh, withData}
+use Rattle.msi.specs.Stage.{withAddressLow, withAddressHigh, withData}
 use Rattle.registers.specs.declared.ReadRegister.{ReadRegister}
 use Rattle.registers.specs.declared.ReadRegister.the-variants as R
 use Rattle.registers.specs.declared.WriteRegister.{WriteRegister}

@@ -1,0 +1,2 @@
+-- The staged message.
+pub mod Stage
