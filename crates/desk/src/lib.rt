@@ -90,7 +90,7 @@ fn run_at(
     requires { ⌜ Good (now s) × (n ≡ count (now s)) × (i < n) × (at + 10304 ≤ length (now out)) ⌝ }
     ensures { λ g. ⌜ Runs true show (i + 1) (d .state) (operationAt (now (s .entry)) i) (now (out .entry)) at (now (out .exit)) g ⌝ }
 {
-    match trace::next_record(s, i) {
+    match reader::read_at(s, i) {
         Next::One(r) => run_here(d, s, n, i, r, show, out, at),
         Next::Bad(_) => Ran {
             device: d,

@@ -1,0 +1,2 @@
+-- What a reader keeps, and what it finds.
+pub mod Reader
