@@ -21,12 +21,13 @@ enum {
     /* The words that every access and raise must be lent: five for each of at most 64 records. With fewer it is refused
      * (7), and nothing happens. */
     DEWBRACKET_ACTION_WORDS = 320,
-    /* An outcome number by which every request is accepted. */
-    DEWBRACKET_ALL = 0xffffffffu,
     /* The bytes that a replay must be lent: so many, and so many more for each record of the trace. */
     DEWBRACKET_TEXT_ROOM = 128,
     DEWBRACKET_RECORD_ROOM = 10304
 };
+
+/* An outcome number by which every request is accepted. */
+#define DEWBRACKET_ALL UINT32_MAX
 
 /* The kinds of action: the first of a record's five words. The other four are its operands. */
 enum {

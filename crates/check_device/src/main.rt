@@ -22,7 +22,6 @@ use mmio_v2::MmioV2Device;
 use show::dec;
 use show::hex;
 use show::say;
-use virtq::Field;
 use virtq::QueueIndex;
 
 // ---- a line of the script
@@ -278,21 +277,8 @@ fn held(d: MmioV2Device, q: u32) {
     standing(d.held_entry(QueueIndex(q), Kind::Notify));
 }
 
-fn field(n: u64) -> Field {
-    match n {
-        0 => Field::Size,
-        1 => Field::Ready,
-        2 => Field::DescLow,
-        3 => Field::DescHigh,
-        4 => Field::AvailLow,
-        5 => Field::AvailHigh,
-        6 => Field::UsedLow,
-        _ => Field::UsedHigh,
-    }
-}
-
 fn question(d: MmioV2Device, l: Line) {
-    let r = d.field(QueueIndex(low32(l.a)), field(l.b));
+    let r = d.field(QueueIndex(low32(l.a)), virtq::field_numbered(low32(l.b)));
     dec(r.refusal as u64);
     hex(r.value as u64);
 }

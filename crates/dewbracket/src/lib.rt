@@ -8,7 +8,7 @@ ghost use Rattle.mmio_v2.specs.Fresh.{madeDevice};
 ghost use Rattle.mmio_v2.specs.Operation.{Raise, Read, Write};
 ghost use Rattle.mmio_v2.specs.Step.{answerOf, replied, step};
 ghost use Rattle.desk.specs.Desk.{Replayed};
-ghost use Rattle.dewbracket.specs.Numbers.{askedByNumber, fieldNumbered, heldByNumber, kindNumbered};
+ghost use Rattle.dewbracket.specs.Numbers.{askedByNumber, heldByNumber, kindNumbered};
 ghost use Rattle.dewbracket.specs.Promises.{Raises, Reads, Writes};
 use desk::Played;
 use mmio_config::Configuration;
@@ -21,7 +21,6 @@ use mmio_v2::MadeDevice;
 use mmio_v2::MmioV2Device;
 use play::Show;
 use tape::Entry;
-use virtq::Field;
 use virtq::QueueIndex;
 
 /// A fresh device, or the number of its refusal, 1 to 6.
@@ -33,21 +32,6 @@ pub extern "C" fn dewbracket_new(c: Configuration) -> MadeDevice
 }
 
 // ---- the questions, by number: no enum crosses into C
-
-fn field_numbered(n: u32) -> Field
-    ensures { λ r. ⌜ r ≡ fieldNumbered n ⌝ }
-{
-    match n {
-        0 => Field::Size,
-        1 => Field::Ready,
-        2 => Field::DescLow,
-        3 => Field::DescHigh,
-        4 => Field::AvailLow,
-        5 => Field::AvailHigh,
-        6 => Field::UsedLow,
-        _ => Field::UsedHigh,
-    }
-}
 
 fn kind_numbered(n: u32) -> Kind
     ensures { λ r. ⌜ r ≡ kindNumbered n ⌝ }
@@ -72,7 +56,7 @@ pub extern "C" fn dewbracket_field(d: MmioV2Device, queue: u32, field: u32) -> R
     ensures { λ r. ⌜ r ≡ askedByNumber (d .state) queue field ⌝ }
 {
     if field < 8 {
-        return d.field(QueueIndex(queue), field_numbered(field));
+        return d.field(QueueIndex(queue), virtq::field_numbered(field));
     }
     Reply {
         refusal: 13,

@@ -1,6 +1,7 @@
 -- Any two results that a promise of this floor allows are equal.
 use mathlib.Core.Path.{_≡_, sym, _∙_}
 use Rattle.virtq.proofs.QueueIndex.vector.Reads as vectors
+use Rattle.virtq.proofs.field_numbered.Reads as numbers
 use Rattle.virtq.proofs.size_fit.Reads as sizes
 use Rattle.virtq.proofs.fit.Reads as fits
 use Rattle.virtq.proofs.Queue.fresh.Reads as freshes
@@ -13,6 +14,9 @@ use Rattle.virtq.proofs.first_invalid.Reads as scans
 
 pub vector-determined : (κs : _) (a : _) (r r′ : _) (s s′ : _) → vectors.Post κs a r s → vectors.Post κs a r′ s′ → r ≡ r′
 vector-determined κs a r r′ s s′ p q = p ∙ sym q
+
+pub field-numbered-determined : (κs : _) (a : _) (r r′ : _) (s s′ : _) → numbers.Post κs a r s → numbers.Post κs a r′ s′ → r ≡ r′
+field-numbered-determined κs a r r′ s s′ p q = p ∙ sym q
 
 pub size-fit-determined : (κs : _) (a : _) (r r′ : _) (s s′ : _) → sizes.Post κs a r s → sizes.Post κs a r′ s′ → r ≡ r′
 size-fit-determined κs a r r′ s s′ p q = p ∙ sym q

@@ -21,6 +21,15 @@ numberOf AvailHigh = 5
 numberOf UsedLow = 6
 numberOf UsedHigh = 7
 
+-- and back: a number past them means the last
+abbrev pub fieldNumbered : ℕ → Field
+fieldNumbered n =
+    pick (eqb n 0) Size
+    (pick (eqb n 1) Ready
+    (pick (eqb n 2) DescLow
+    (pick (eqb n 3) DescHigh
+    (pick (eqb n 4) AvailLow (pick (eqb n 5) AvailHigh (pick (eqb n 6) UsedLow UsedHigh))))))
+
 abbrev pub same : Field → Field → Bool
 same f g = eqb (numberOf f) (numberOf g)
 

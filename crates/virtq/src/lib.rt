@@ -3,7 +3,7 @@
 ghost use mathlib.Core.Path.{_≡_};
 ghost use Prim.Native.Nat.{ℕ, min};
 ghost use Rattle.virtq.specs.Index.{maxQueues, vectorOf};
-ghost use Rattle.virtq.specs.Fields.{fit, fieldOf, fieldsOf, freshQueue, powerOfTwo, put, sizeFit, updated};
+ghost use Rattle.virtq.specs.Fields.{fieldNumbered, fieldOf, fieldsOf, fit, freshQueue, powerOfTwo, put, sizeFit, updated};
 ghost use Rattle.virtq.specs.Valid.{address, inside, scanned, valid};
 
 /// The queues that a table has room for.
@@ -36,6 +36,22 @@ pub enum Field {
     AvailHigh,
     UsedLow,
     UsedHigh,
+}
+
+/// The field of this number, from 0 to 7; past them the last.
+pub fn field_numbered(n: u32) -> Field
+    ensures { λ r. ⌜ r ≡ fieldNumbered n ⌝ }
+{
+    match n {
+        0 => Field::Size,
+        1 => Field::Ready,
+        2 => Field::DescLow,
+        3 => Field::DescHigh,
+        4 => Field::AvailLow,
+        5 => Field::AvailHigh,
+        6 => Field::UsedLow,
+        _ => Field::UsedHigh,
+    }
 }
 
 /// What a guest laid out of one queue. Its maximum size is configuration, and stands elsewhere.
