@@ -195,7 +195,20 @@ dewbracket_told dewbracket_write(dewbracket_device *device, uint32_t k, uint64_t
                                  size_t length, uint64_t *actions, size_t words);
 dewbracket_told dewbracket_raise(dewbracket_device *device, uint32_t bits, uint64_t *actions, size_t words);
 
-/* The same by value, for a caller that keeps no device in place. The device that comes back is the one after it. */
+/* The registers that a guest polls, for a caller that counts nanoseconds. An access is tried by its poll first, with the
+ * length and the number of words that it would be given, and where that isn't done by the full function above:
+ * nothing happened then. Where it is done, all is done that the full function would do, and nothing is asked of the host.
+ * A read (of 060 or 070, four bytes) answers with the register's word, whose bytes, the lowest first, are the reply; a
+ * write (of 050 or 064, four bytes) answers whether it is done. */
+typedef struct {
+    uint32_t value;
+    bool done;
+} dewbracket_quick;
+
+dewbracket_quick dewbracket_poll_read(const dewbracket_device *device, uint64_t offset, size_t length, size_t words);
+bool dewbracket_poll_write(dewbracket_device *device, uint64_t offset, const uint8_t *bytes, size_t length, size_t words);
+
+/* An access or a raise by value, for a caller that keeps no device in place. The device that comes back is the one after it. */
 typedef struct {
     dewbracket_device device;
     uint32_t refusal;

@@ -34,13 +34,14 @@ static int perform(size_t from, size_t count, int refuse) {
     return -1;
 }
 
-/* A write of one word, as a VMM does it. */
+/* A write of one word, as a VMM does it: by the poll where that is enough, since then there is nothing to perform. */
 static void write_word(dewbracket_device *device, uint64_t offset, uint32_t value, int refuse) {
     uint8_t bytes[4] = {value, value >> 8, value >> 16, value >> 24};
+    printf("write %03" PRIx64 " %" PRIx32 "\n", offset, value);
+    if (dewbracket_poll_write(device, offset, bytes, sizeof bytes, DEWBRACKET_ACTION_WORDS)) return;
     dewbracket_device old = *device;
     dewbracket_told told =
         dewbracket_write(device, DEWBRACKET_ALL, offset, bytes, sizeof bytes, actions, DEWBRACKET_ACTION_WORDS);
-    printf("write %03" PRIx64 " %" PRIx32 "\n", offset, value);
     int refused = perform(0, told.count, refuse);
     if (refused < 0) return;
     /* Up to the refused request the records were performed. From the old device, with as many accepted as were, come the
@@ -54,6 +55,8 @@ static void write_word(dewbracket_device *device, uint64_t offset, uint32_t valu
 
 static uint32_t read_word(const dewbracket_device *device, uint64_t offset) {
     uint8_t reply[4] = {0};
+    dewbracket_quick polled = dewbracket_poll_read(device, offset, sizeof reply, DEWBRACKET_ACTION_WORDS);
+    if (polled.done) return polled.value;
     dewbracket_read(device, DEWBRACKET_ALL, offset, reply, sizeof reply, actions, DEWBRACKET_ACTION_WORDS);
     return reply[0] | reply[1] << 8 | reply[2] << 16 | (uint32_t)reply[3] << 24;
 }

@@ -1,13 +1,15 @@
 -- Any two results that a promise of this floor allows are equal, and so are the device, the lent bytes and the lent words at
 -- the end.
 use mathlib.Core.Path.{_≡_, sym, _∙_}
+use mathlib.Core.Bool.{Bool}
 use mathlib.Core.List.{List}
 use denote.Ref.{now}
 use Prim.Native.Nat.{ℕ}
 use Rattle.mmio_v2.specs.declared.MmioV2Device.{MmioV2Device}
 use Rattle.desk.proofs.Determined.{same-replayed}
+use Rattle.mmio_fast.specs.declared.Quick.{Quick}
 use Rattle.mmio_fast.specs.declared.Told.{Told}
-use Rattle.dewbracket.specs.Promises.{Reads, Writes, Raises}
+use Rattle.dewbracket.specs.Promises.{Reads, Writes, Raises, PollsRead, PollsWrite}
 use Rattle.dewbracket.proofs.dewbracket_new.Reads as new-promise
 use Rattle.dewbracket.proofs.dewbracket_driver_status.Reads as driver-status-promise
 use Rattle.dewbracket.proofs.dewbracket_field.Reads as field-promise
@@ -50,3 +52,10 @@ module _ (d : MmioV2Device) (k o : ℕ) (x x′ x″ : List ℕ) (r r′ : Told)
 
   pub raise-determined : (d′ d″ : MmioV2Device) (b : ℕ) → Raises d d′ b x x′ r → Raises d d″ b x x″ r′ → (d′ ≡ d″) × (r ≡ r′) × (x′ ≡ x″)
   raise-determined d′ d″ b p q = (p .0 ∙ sym (q .0), p .1 ∙ sym (q .1), p .2 ∙ sym (q .2))
+
+module _ (d : MmioV2Device) (o w : ℕ) where
+  pub poll-read-determined : (l : ℕ) (r r′ : Quick) → PollsRead d o l w r → PollsRead d o l w r′ → r ≡ r′
+  poll-read-determined l r r′ p q = p ∙ sym q
+
+  pub poll-write-determined : (d′ d″ : MmioV2Device) (bs : List ℕ) (r r′ : Bool) → PollsWrite d d′ o bs w r → PollsWrite d d″ o bs w r′ → (d′ ≡ d″) × (r ≡ r′)
+  poll-write-determined d′ d″ bs r r′ p q = (p .0 ∙ sym (q .0), p .1 ∙ sym (q .1))

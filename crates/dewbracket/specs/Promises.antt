@@ -1,15 +1,20 @@
 -- What an access and a raise behind a lent device promise: what the step says of the device, of what is told, of the lent
 -- bytes and of the lent words (01, "What the gateway hands over"). Primes stand for the end.
 use mathlib.Core.Path.{_≡_}
+use mathlib.Core.Bool.{Bool}
 use mathlib.Core.List.{List}
 use Prim.Native.Nat.{ℕ}
 use lib.ListN.{length}
 use Rattle.tape.specs.Play.{laid}
+use Rattle.mmio_state.specs.State.{withHot}
+use Rattle.mmio_access.specs.Changes.{withInterrupts}
 use Rattle.mmio_v2.specs.Fresh.{device}
 use Rattle.mmio_v2.specs.Operation.{Read, Write, Raise}
 use Rattle.mmio_v2.specs.Step.{step, replied}
 use Rattle.mmio_v2.specs.declared.MmioV2Device.{MmioV2Device}
+use Rattle.mmio_fast.specs.Quick.{quickRead, quickWrite}
 use Rattle.mmio_fast.specs.Tell.{toldOf}
+use Rattle.mmio_fast.specs.declared.Quick.{Quick}
 use Rattle.mmio_fast.specs.declared.Told.{Told}
 
 -- a read changes no device
@@ -30,3 +35,12 @@ Raises d d′ b x x′ r =
     (d′ ≡ device (step (length x) (d .state) (Raise b) .state))
     × (r ≡ toldOf (step (length x) (d .state) (Raise b)))
     × (x′ ≡ laid x (step (length x) (d .state) (Raise b) .actions))
+
+-- the polled registers alone: whether that is enough, and then the register's word, or the bits after it
+abbrev pub PollsRead : MmioV2Device → (offset length room : ℕ) → Quick → Type 0
+PollsRead d o l w r = r ≡ quickRead (d .state .hot) o l w
+
+abbrev pub PollsWrite : (d d′ : MmioV2Device) → (offset : ℕ) → (bytes : List ℕ) → (room : ℕ) → Bool → Type 0
+PollsWrite d d′ o bs w r =
+    (d′ ≡ device (withHot (d .state) (withInterrupts (d .state .hot) (quickWrite (d .state .hot) o bs w .value))))
+    × (r ≡ quickWrite (d .state .hot) o bs w .done)

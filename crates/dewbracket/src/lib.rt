@@ -1,5 +1,5 @@
 //! The device for C and Rust to link. `new` and the questions go by value. An access and a raise go by value, or behind a lent
-//! device: then with the same promises, and by the short way where that is enough.
+//! device: then with the same promises, and by the short way where that is enough. The polls are that short way alone.
 
 ghost use mathlib.Core.Path.{_≡_};
 ghost use lib.ListN.{length};
@@ -9,9 +9,10 @@ ghost use Rattle.mmio_v2.specs.Operation.{Raise, Read, Write};
 ghost use Rattle.mmio_v2.specs.Step.{answerOf, replied, step};
 ghost use Rattle.desk.specs.Desk.{Replayed};
 ghost use Rattle.dewbracket.specs.Numbers.{askedByNumber, heldByNumber, kindNumbered};
-ghost use Rattle.dewbracket.specs.Promises.{Raises, Reads, Writes};
+ghost use Rattle.dewbracket.specs.Promises.{PollsRead, PollsWrite, Raises, Reads, Writes};
 use desk::Played;
 use mmio_config::Configuration;
+use mmio_fast::Quick;
 use mmio_fast::Told;
 use mmio_tables::Kind;
 use mmio_tables::Reply;
@@ -189,6 +190,38 @@ pub extern "C" fn dewbracket_raise(dev: &mut MmioV2Device, bits: u32, actions: &
     let raised = mmio_fast::quick_raise(dev.state.hot, bits, actions.len());
     dev.state.hot.interrupts = raised.bits;
     raised.told
+}
+
+// ---- a polled register of a lent device, or nothing: tried first, each spares its caller the frame of the full function
+
+/// A read of 060 or 070, with so many reply bytes and action words lent. Where it is not done, its caller goes on with
+/// `dewbracket_read`.
+#[no_mangle]
+pub extern "C" fn dewbracket_poll_read(
+    dev: &MmioV2Device,
+    offset: u64,
+    len: usize,
+    room: usize,
+) -> Quick
+    ensures { λ r. ⌜ PollsRead (now (dev .entry)) offset len room r ⌝ }
+{
+    mmio_fast::quick_read(dev.state.hot, offset, len, room)
+}
+
+/// A write of 050 or 064, with so many action words lent. Where it is not done, the device is as it was, and its caller goes
+/// on with `dewbracket_write`.
+#[no_mangle]
+pub extern "C" fn dewbracket_poll_write(
+    dev: &mut MmioV2Device,
+    offset: u64,
+    bytes: &[u8],
+    room: usize,
+) -> bool
+    ensures { λ r. ⌜ PollsWrite (now (dev .entry)) (now (dev .exit)) offset (now (bytes .entry)) room r ⌝ }
+{
+    let quick = mmio_fast::quick_write(dev.state.hot, offset, bytes, room);
+    dev.state.hot.interrupts = quick.value;
+    quick.done
 }
 
 // ---- a whole trace

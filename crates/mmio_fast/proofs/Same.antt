@@ -35,33 +35,34 @@ abbrev pub wordOnly : State → (value : ℕ) → Outcome
 wordOnly s v = record { refusal = 0; state = s; reply = bytesOf 4 v; actions = [] }
 
 -- what is done under both tests passed both
-module _ (w l : ℕ) (s : State) (op : Operation) (q : Quick) (make : ℕ → Outcome) where
+module _ (w l v : ℕ) (s : State) (op : Operation) (q : Quick) (make : ℕ → Outcome) where
   pub when-word : (q .done ≡ true → l ≡ 4 → operated s op ≡ make (q .value))
-      → whenWord w l q .done ≡ true → (step w s op ≡ make (whenWord w l q .value)) × (l ≡ 4)
+      → whenWord w l v q .done ≡ true → (step w s op ≡ make (whenWord w l v q .value)) × (l ≡ 4)
   when-word law e = by-tests (ltb w roomWords) (eqb l 4) refl e
     where
-      by-tests : (a b : Bool) → eqb l 4 ≡ b → pick a slow (pick b q slow) .done ≡ true
-          → (pick a (refusing s) (operated s op) ≡ make (pick a slow (pick b q slow) .value)) × (l ≡ 4)
+      by-tests : (a b : Bool) → eqb l 4 ≡ b → pick a (slow v) (pick b q (slow v)) .done ≡ true
+          → (pick a (refusing s) (operated s op) ≡ make (pick a (slow v) (pick b q (slow v)) .value)) × (l ≡ 4)
       by-tests true b f e = absurd (true≢false (sym e))
       by-tests false true f e = let n = eqb-true l 4 f in (law e n, n)
       by-tests false false f e = absurd (true≢false (sym e))
 
 -- the registers, over their tests
 abbrev wrote : State → List ℕ → Bool → Bool → Quick
-wrote s bs c d = pick c (done (cleared (s .hot .interrupts) (readLe 4 bs))) (pick d (done (s .hot .interrupts)) slow)
+wrote s bs c d =
+    pick c (done (cleared (s .hot .interrupts) (readLe 4 bs))) (pick d (done (s .hot .interrupts)) (slow (s .hot .interrupts)))
 
 abbrev polled : State → Bool → Bool → Quick
-polled s c d = pick c (done (shows s R.InterruptStatus .value)) (pick d (done (s .hot .status)) slow)
+polled s c d = pick c (done (shows s R.InterruptStatus .value)) (pick d (done (s .hot .status)) (slow 0))
 
 abbrev ready : State → Bool → Quick
-ready s c = pick c (done (shows s R.QueueReady .value)) slow
+ready s c = pick c (done (shows s R.QueueReady .value)) (slow 0)
 
 module _ (s : State) (k o : ℕ) where
   pub write-same : (bs : List ℕ) (w : ℕ) → quickWrite (s .hot) o bs w .done ≡ true
       → step w s (Write k o bs) ≡ bitsOnly s 0 (quickWrite (s .hot) o bs w .value)
   unfolding quickWrite
   write-same bs w e =
-      when-word w (length bs) s (Write k o bs) (wrote s bs (eqb o 0x64) (eqb o 0x50)) (bitsOnly s 0)
+      when-word w (length bs) (s .hot .interrupts) s (Write k o bs) (wrote s bs (eqb o 0x64) (eqb o 0x50)) (bitsOnly s 0)
       (by-tests (eqb o 0x64) (eqb o 0x50) refl refl) e .0
     where
       by-tests : (c d : Bool) → eqb o 0x64 ≡ c → eqb o 0x50 ≡ d → wrote s bs c d .done ≡ true → length bs ≡ 4
@@ -74,7 +75,7 @@ module _ (s : State) (k o : ℕ) where
       → (step w s (Read k o l) ≡ wordOnly s (quickRead (s .hot) o l w .value)) × (l ≡ 4)
   unfolding quickRead
   read-same l w e =
-      when-word w l s (Read k o l) (polled s (eqb o 0x60) (eqb o 0x70)) (wordOnly s)
+      when-word w l 0 s (Read k o l) (polled s (eqb o 0x60) (eqb o 0x70)) (wordOnly s)
       (by-tests (eqb o 0x60) (eqb o 0x70) refl refl) e
     where
       by-tests : (c d : Bool) → eqb o 0x60 ≡ c → eqb o 0x70 ≡ d → polled s c d .done ≡ true → l ≡ 4
@@ -86,12 +87,27 @@ module _ (s : State) (k o : ℕ) where
   pub ready-same : (l w : ℕ) → quickReady (s .hot) (s .config .count) (s .queues) o l w .done ≡ true
       → (step w s (Read k o l) ≡ wordOnly s (quickReady (s .hot) (s .config .count) (s .queues) o l w .value)) × (l ≡ 4)
   unfolding quickReady
-  ready-same l w e = when-word w l s (Read k o l) (ready s (eqb o 0x44)) (wordOnly s) (by-tests (eqb o 0x44) refl) e
+  ready-same l w e = when-word w l 0 s (Read k o l) (ready s (eqb o 0x44)) (wordOnly s) (by-tests (eqb o 0x44) refl) e
     where
       by-tests : (c : Bool) → eqb o 0x44 ≡ c → ready s c .done ≡ true → l ≡ 4
           → operated s (Read k o l) ≡ wordOnly s (ready s c .value)
       by-tests true f e n = rw (n, eqb-true o 0x44 f)
       by-tests false f e n = absurd (true≢false (sym e))
+
+-- a write that is not done leaves the bits
+pub write-kept : (s : State) (o : ℕ) (bs : List ℕ) (w : ℕ) → quickWrite (s .hot) o bs w .done ≡ false
+    → quickWrite (s .hot) o bs w .value ≡ s .hot .interrupts
+unfolding quickWrite
+write-kept s o bs w e = by-tests (ltb w roomWords) (eqb (length bs) 4) (eqb o 0x64) (eqb o 0x50) e
+  where
+    by-tests : (a b c d : Bool)
+        → pick a (slow (s .hot .interrupts)) (pick b (wrote s bs c d) (slow (s .hot .interrupts))) .done ≡ false
+        → pick a (slow (s .hot .interrupts)) (pick b (wrote s bs c d) (slow (s .hot .interrupts))) .value ≡ s .hot .interrupts
+    by-tests true b c d e = refl
+    by-tests false false c d e = refl
+    by-tests false true true d e = absurd (true≢false e)
+    by-tests false true false true e = refl
+    by-tests false true false false e = refl
 
 -- a raise, over its test
 abbrev raising : State → (bits : ℕ) → Bool → Raised

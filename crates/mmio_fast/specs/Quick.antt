@@ -23,25 +23,28 @@ abbrev pub done : ℕ → Quick
 done v = record { value = v; done = true }
 
 -- any other access
-abbrev pub slow : Quick
-slow = record { value = 0; done = false }
+abbrev pub slow : ℕ → Quick
+slow v = record { value = v; done = false }
 
 -- room for the actions, then the length: else it is not done
-abbrev pub whenWord : (room length : ℕ) → Quick → Quick
-whenWord w l q = pick (ltb w roomWords) slow (pick (eqb l 4) q slow)
+abbrev pub whenWord : (room length other : ℕ) → Quick → Quick
+whenWord w l v q = pick (ltb w roomWords) (slow v) (pick (eqb l 4) q (slow v))
 
+-- a write that is not done leaves the bits
 unfoldable pub quickWrite : Hot → (offset : ℕ) → (bytes : List ℕ) → (room : ℕ) → Quick
 quickWrite h o bs w =
-    whenWord w (length bs)
-    (pick (eqb o 0x64) (done (cleared (h .interrupts) (readLe 4 bs))) (pick (eqb o 0x50) (done (h .interrupts)) slow))
+    whenWord w (length bs) (h .interrupts)
+    (pick (eqb o 0x64) (done (cleared (h .interrupts) (readLe 4 bs)))
+    (pick (eqb o 0x50) (done (h .interrupts)) (slow (h .interrupts))))
 
 unfoldable pub quickRead : Hot → (offset length room : ℕ) → Quick
 quickRead h o l w =
-    whenWord w l
-    (pick (eqb o 0x60) (done (tweaked (h .vendor) (h .interrupts))) (pick (eqb o 0x70) (done (h .status)) slow))
+    whenWord w l 0
+    (pick (eqb o 0x60) (done (tweaked (h .vendor) (h .interrupts))) (pick (eqb o 0x70) (done (h .status)) (slow 0)))
 
 unfoldable pub quickReady : Hot → (count : ℕ) → List Queue → (offset length room : ℕ) → Quick
-quickReady h c qs o l w = whenWord w l (pick (eqb o 0x44) (done (fieldAt qs (h .queue) (counted c) F.Ready)) slow)
+quickReady h c qs o l w =
+    whenWord w l 0 (pick (eqb o 0x44) (done (fieldAt qs (h .queue) (counted c) F.Ready)) (slow 0))
 
 -- "A raise sets the given interrupt bits at any status"
 unfoldable pub quickRaise : Hot → (bits room : ℕ) → Raised

@@ -41,7 +41,8 @@ pub struct Wrote {
     pub device: MmioV2Device,
 }
 
-/// Whether the short way is enough, and if so its one number: a register's word, or the interrupt bits after a write.
+/// Whether the short way is enough, and its one number: a register's word, or the interrupt bits after a write. Where it is
+/// not enough, a write's number is the interrupt bits as they are, so that they may be stored without asking.
 #[repr(C)]
 pub struct Quick {
     pub value: u32,
@@ -61,13 +62,10 @@ fn done(value: u32) -> Quick
     Quick { value, done: true }
 }
 
-fn slow() -> Quick
-    ensures { λ r. ⌜ r ≡ slow ⌝ }
+fn slow(value: u32) -> Quick
+    ensures { λ r. ⌜ r ≡ slow value ⌝ }
 {
-    Quick {
-        value: 0,
-        done: false,
-    }
+    Quick { value, done: false }
 }
 
 fn cleared(bits: u32, v: u32) -> u32
@@ -81,7 +79,7 @@ pub fn quick_write(h: Hot, offset: u64, bytes: &[u8], room: usize) -> Quick
     ensures { λ r. ⌜ r ≡ quickWrite h offset (now (bytes .entry)) room ⌝ }
 {
     if room < ACTION_WORDS {
-        return slow();
+        return slow(h.interrupts);
     }
     if bytes.len() == 4 {
         if offset == REG_MMIO_INTERRUPT_AC {
@@ -90,9 +88,9 @@ pub fn quick_write(h: Hot, offset: u64, bytes: &[u8], room: usize) -> Quick
         if offset == REG_MMIO_QUEUE_NOTIF {
             return done(h.interrupts);
         }
-        return slow();
+        return slow(h.interrupts);
     }
-    slow()
+    slow(h.interrupts)
 }
 
 /// A read of a polled register: 060 or 070.
@@ -100,7 +98,7 @@ pub fn quick_read(h: Hot, offset: u64, len: usize, room: usize) -> Quick
     ensures { λ r. ⌜ r ≡ quickRead h offset len room ⌝ }
 {
     if room < ACTION_WORDS {
-        return slow();
+        return slow(0);
     }
     if len == 4 {
         if offset == REG_MMIO_INTERRUPT_STAT {
@@ -109,9 +107,9 @@ pub fn quick_read(h: Hot, offset: u64, len: usize, room: usize) -> Quick
         if offset == REG_MMIO_STATUS {
             return done(h.status);
         }
-        return slow();
+        return slow(0);
     }
-    slow()
+    slow(0)
 }
 
 /// A read of 044, from the table of queues.
@@ -126,15 +124,15 @@ pub fn quick_ready(
     ensures { λ r. ⌜ r ≡ quickReady h count queues offset len room ⌝ }
 {
     if room < ACTION_WORDS {
-        return slow();
+        return slow(0);
     }
     if len == 4 {
         if offset == REG_MMIO_QUEUE_READY {
             return done(mmio_tables::field_at(queues, QueueIndex(h.queue), count, Field::Ready));
         }
-        return slow();
+        return slow(0);
     }
-    slow()
+    slow(0)
 }
 
 fn tell(refusal: u32, reply: u32, count: usize) -> Told

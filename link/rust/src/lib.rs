@@ -113,6 +113,48 @@ impl Device {
     /// A read of as many bytes as `reply` has. Whatever `k` is, it goes the same.
     #[inline]
     pub fn read(&self, k: u32, offset: u64, reply: &mut [u8], actions: &mut Actions) -> Told {
+        if self.poll_read(offset, reply) {
+            actions.count = 0;
+            return Told { refusal: 0, reply: 4, count: 0 };
+        }
+        self.full_read(k, offset, reply, actions)
+    }
+
+    /// A write of these bytes.
+    #[inline]
+    pub fn write(&mut self, k: u32, offset: u64, bytes: &[u8], actions: &mut Actions) -> Told {
+        if self.poll_write(offset, bytes) {
+            actions.count = 0;
+            return Told::default();
+        }
+        self.full_write(k, offset, bytes, actions)
+    }
+
+    /// A read of 060 or 070, if it is one: then there are four reply bytes, and nothing is asked of the host. Else nothing
+    /// happened.
+    #[inline]
+    pub fn poll_read(&self, offset: u64, reply: &mut [u8]) -> bool {
+        // SAFETY: the pointer comes from a reference.
+        let polled = unsafe { raw::dewbracket_poll_read(&self.0, offset, reply.len(), ACTION_WORDS) };
+        match reply.first_chunk_mut() {
+            // Only a read of four bytes is done.
+            Some(word) if polled.done => {
+                *word = polled.value.to_le_bytes();
+                true
+            }
+            _ => false,
+        }
+    }
+
+    /// A write of 050 or 064, if it is one: then nothing is asked of the host. Else nothing happened.
+    #[inline]
+    pub fn poll_write(&mut self, offset: u64, bytes: &[u8]) -> bool {
+        // SAFETY: as in `full_read`.
+        unsafe { raw::dewbracket_poll_write(&mut self.0, offset, bytes.as_ptr(), bytes.len(), ACTION_WORDS) }
+    }
+
+    /// As `read`, with no poll before it.
+    pub fn full_read(&self, k: u32, offset: u64, reply: &mut [u8], actions: &mut Actions) -> Told {
         let words = &mut actions.words;
         // SAFETY: each pointer is good for its length, and no two overlap: they come from distinct references.
         let told = unsafe {
@@ -122,11 +164,10 @@ impl Device {
         told
     }
 
-    /// A write of these bytes.
-    #[inline]
-    pub fn write(&mut self, k: u32, offset: u64, bytes: &[u8], actions: &mut Actions) -> Told {
+    /// As `write`, with no poll before it.
+    pub fn full_write(&mut self, k: u32, offset: u64, bytes: &[u8], actions: &mut Actions) -> Told {
         let words = &mut actions.words;
-        // SAFETY: as in `read`.
+        // SAFETY: as in `full_read`.
         let told = unsafe {
             raw::dewbracket_write(&mut self.0, k, offset, bytes.as_ptr(), bytes.len(), words.as_mut_ptr(), words.len())
         };
@@ -138,7 +179,7 @@ impl Device {
     #[inline]
     pub fn raise(&mut self, bits: u32, actions: &mut Actions) -> Told {
         let words = &mut actions.words;
-        // SAFETY: as in `read`.
+        // SAFETY: as in `full_read`.
         let told = unsafe { raw::dewbracket_raise(&mut self.0, bits, words.as_mut_ptr(), words.len()) };
         actions.count = told.count;
         told
@@ -147,7 +188,7 @@ impl Device {
     /// As `read`, by value: always the long way.
     pub fn passed_read(self, k: u32, offset: u64, reply: &mut [u8], actions: &mut Actions) -> (Self, Told) {
         let words = &mut actions.words;
-        // SAFETY: as in `read`.
+        // SAFETY: as in `full_read`.
         let answer = unsafe {
             raw::dewbracket_pass_read(self.0, k, offset, reply.as_mut_ptr(), reply.len(), words.as_mut_ptr(), words.len())
         };
@@ -157,7 +198,7 @@ impl Device {
     /// As `write`, by value: always the long way.
     pub fn passed_write(self, k: u32, offset: u64, bytes: &[u8], actions: &mut Actions) -> (Self, Told) {
         let words = &mut actions.words;
-        // SAFETY: as in `read`.
+        // SAFETY: as in `full_read`.
         let answer = unsafe {
             raw::dewbracket_pass_write(self.0, k, offset, bytes.as_ptr(), bytes.len(), words.as_mut_ptr(), words.len())
         };
@@ -167,7 +208,7 @@ impl Device {
     /// As `raise`, by value: always the long way.
     pub fn passed_raise(self, bits: u32, actions: &mut Actions) -> (Self, Told) {
         let words = &mut actions.words;
-        // SAFETY: as in `read`.
+        // SAFETY: as in `full_read`.
         let answer = unsafe { raw::dewbracket_pass_raise(self.0, bits, words.as_mut_ptr(), words.len()) };
         actions.answered(answer)
     }
@@ -241,7 +282,7 @@ impl Eq for Device {}
 pub fn replay(trace: &[u8], show: Show) -> Result<(String, Device), Refusal> {
     let records = trace.get(4..8).map_or(0, |word| u32::from_le_bytes(word.try_into().unwrap()) as usize);
     let mut text = vec![0; TEXT_ROOM + RECORD_ROOM * records.min(MOST_RECORDS)];
-    // SAFETY: as in `read`.
+    // SAFETY: as in `full_read`.
     let played = unsafe { raw::dewbracket_replay(trace.as_ptr(), trace.len(), show, text.as_mut_ptr(), text.len()) };
     assert!(played.whole, "a good trace has at most {MOST_RECORDS} records, and there is room for as many as it names");
     text.truncate(played.length);
@@ -249,5 +290,44 @@ pub fn replay(trace: &[u8], show: Show) -> Result<(String, Device), Refusal> {
     match text.strip_prefix("bad ") {
         Some(number) => Err(Refusal(number.trim_end().parse().expect("a number stands behind `bad`"))),
         None => Ok((text, Device(played.device))),
+    }
+}
+
+#[cfg(test)]
+mod tests {
+    use super::*;
+
+    /// With fewer words lent than an access must have, a poll does nothing: the refusal is the full function's to tell.
+    #[test]
+    fn a_poll_with_too_few_words_does_nothing() {
+        let mut sizes = [0; 16];
+        sizes[0] = 256;
+        let mut device = Device::new(Configuration {
+            base: 0xd000_0000,
+            size: 0x2000,
+            memory: 0x1000_0000,
+            kind: 2,
+            dataqueues: 1,
+            sizes,
+            ..Configuration::default()
+        })
+        .unwrap();
+        device.raise(3, &mut Actions::default());
+        let (old, bytes) = (device, [1, 0, 0, 0]);
+        for words in [0, 1, ACTION_WORDS - 1, ACTION_WORDS, ACTION_WORDS + 1] {
+            let enough = words >= ACTION_WORDS;
+            for offset in [0x060, 0x070] {
+                // SAFETY: the pointer comes from a reference.
+                let read = unsafe { raw::dewbracket_poll_read(&device.0, offset, 4, words) };
+                assert_eq!(read.done, enough);
+            }
+            for offset in [0x050, 0x064] {
+                device = old;
+                // SAFETY: each pointer is good for its length, and they come from distinct references.
+                let done = unsafe { raw::dewbracket_poll_write(&mut device.0, offset, bytes.as_ptr(), 4, words) };
+                assert_eq!(done, enough);
+                assert_eq!(device == old, !(enough && offset == 0x064));
+            }
+        }
     }
 }

@@ -94,6 +94,14 @@ pub struct Told {
     pub count: usize,
 }
 
+/// Whether the short way was enough, and if so a register's word.
+#[derive(Clone, Copy)]
+#[repr(C)]
+pub struct Quick {
+    pub value: u32,
+    pub done: bool,
+}
+
 /// What comes back by value: the device after it, and what is told.
 #[derive(Clone, Copy)]
 #[repr(C)]
@@ -170,6 +178,14 @@ extern "C" {
         actions: *mut u64,
         words: usize,
     ) -> Told;
+    pub fn dewbracket_poll_read(device: *const Device, offset: u64, length: usize, words: usize) -> Quick;
+    pub fn dewbracket_poll_write(
+        device: *mut Device,
+        offset: u64,
+        bytes: *const u8,
+        length: usize,
+        words: usize,
+    ) -> bool;
     pub fn dewbracket_raise(device: *mut Device, bits: u32, actions: *mut u64, words: usize) -> Told;
     pub fn dewbracket_pass_read(
         device: Device,

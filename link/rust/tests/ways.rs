@@ -1,5 +1,5 @@
-//! The short way inside the lent functions and the long way by value come to the same, on random accesses. That is proved;
-//! this run shows that what was proved is what was linked.
+//! The ways of an access come to the same, on random accesses: a poll and then the full function, the full function alone, and
+//! by value. That is proved; this run shows that what was proved is what was linked.
 
 use dewbracket::{Actions, Configuration, Device, Told};
 
@@ -44,53 +44,78 @@ fn fresh() -> Device {
 const OFFSETS: [u64; 12] = [0x030, 0x038, 0x044, 0x050, 0x060, 0x064, 0x070, 0x080, 0x090, 0x0a0, 0x0c0, 0x0c2];
 const STATUSES: [u32; 7] = [0x0, 0x1, 0x3, 0xb, 0xf, 0x8f, 0x80];
 
-struct Both {
+struct Ways {
     device: Device,
     lent: Actions,
+    full: Actions,
     passed: Actions,
 }
 
-impl Both {
-    fn agree(&self, device: Device, lent: Told, passed: Told) {
-        assert!(self.device == device);
-        assert_eq!(lent, passed);
+/// Which accesses a poll answers: no others.
+fn polled_read(offset: u64, length: usize) -> bool {
+    length == 4 && (offset == 0x060 || offset == 0x070)
+}
+
+fn polled_write(offset: u64, length: usize) -> bool {
+    length == 4 && (offset == 0x050 || offset == 0x064)
+}
+
+impl Ways {
+    fn new() -> Self {
+        Ways { device: fresh(), lent: Actions::default(), full: Actions::default(), passed: Actions::default() }
+    }
+
+    fn agree(&self, devices: [Device; 2], tolds: [Told; 3]) {
+        assert!(devices.iter().all(|device| *device == self.device));
+        assert!(tolds.iter().all(|told| *told == tolds[0]));
         assert_eq!(self.lent.words(), self.passed.words());
+        assert_eq!(self.full.words(), self.passed.words());
+        assert!(self.lent.iter().eq(self.passed.iter()));
     }
 
     fn read(&mut self, offset: u64, length: usize) {
-        let (mut a, mut b) = ([0xaa; 9], [0xaa; 9]);
+        let [mut a, mut b, mut c, mut d] = [[0xaa; 9]; 4];
         let (device, passed) = self.device.passed_read(0, offset, &mut a[..length], &mut self.passed);
-        let lent = self.device.read(0, offset, &mut b[..length], &mut self.lent);
-        assert_eq!(a, b);
-        self.agree(device, lent, passed);
+        let full = self.device.full_read(0, offset, &mut b[..length], &mut self.full);
+        let lent = self.device.read(0, offset, &mut c[..length], &mut self.lent);
+        assert_eq!((a, a), (b, c));
+        let done = self.device.poll_read(offset, &mut d[..length]);
+        assert_eq!(done, polled_read(offset, length));
+        assert_eq!(d, if done { a } else { [0xaa; 9] });
+        self.agree([device, self.device], [lent, full, passed]);
     }
 
     fn write(&mut self, k: u32, offset: u64, bytes: &[u8]) {
+        let [old, mut once, mut polled] = [self.device; 3];
         let (device, passed) = self.device.passed_write(k, offset, bytes, &mut self.passed);
+        let full = once.full_write(k, offset, bytes, &mut self.full);
         let lent = self.device.write(k, offset, bytes, &mut self.lent);
-        self.agree(device, lent, passed);
+        let done = polled.poll_write(offset, bytes);
+        assert_eq!(done, polled_write(offset, bytes.len()));
+        assert!(polled == if done { self.device } else { old });
+        self.agree([device, once], [lent, full, passed]);
     }
 
     fn raise(&mut self, bits: u32) {
         let (device, passed) = self.device.passed_raise(bits, &mut self.passed);
         let lent = self.device.raise(bits, &mut self.lent);
-        self.agree(device, lent, passed);
+        self.agree([device, self.device], [lent, lent, passed]);
     }
 }
 
 #[test]
-fn both_ways_agree_on_random_accesses() {
+fn all_ways_agree_on_random_accesses() {
     let mut chance = Chance(0x9e37_79b9_7f4a_7c15);
     for _ in 0..500 {
-        let mut both = Both { device: fresh(), lent: Actions::default(), passed: Actions::default() };
+        let mut ways = Ways::new();
         for _ in 0..400 {
             let known = chance.below(8) != 0;
             let offset = if known { chance.of(&OFFSETS) } else { chance.below(0x1100) };
             let usual = if offset == 0x0c0 || offset == 0x0c2 { 2 } else { 4 };
             let length = if chance.below(8) == 0 { chance.below(9) as usize } else { usual };
             match chance.below(8) {
-                0 => both.raise(chance.below(16) as u32),
-                1..=3 => both.read(offset, length),
+                0 => ways.raise(chance.below(16) as u32),
+                1..=3 => ways.read(offset, length),
                 _ => {
                     let value = match offset {
                         0x070 => chance.of(&STATUSES),
@@ -100,7 +125,7 @@ fn both_ways_agree_on_random_accesses() {
                     let mut bytes = [0; 8];
                     bytes[..4].copy_from_slice(&value.to_le_bytes());
                     let k = if chance.below(4) == 0 { chance.below(8) as u32 } else { u32::MAX };
-                    both.write(k, offset, &bytes[..length.min(8)]);
+                    ways.write(k, offset, &bytes[..length.min(8)]);
                 }
             }
         }
