@@ -13,7 +13,7 @@ use Rattle.mmio_v2.specs.Fresh.{refusal}
 use Rattle.trace.specs.Numbers.{wordAt}
 use Rattle.trace.specs.Form.{knownVersion, blockPlace, recordsPlace, poolPlace}
 use Rattle.trace.specs.Block.{blockAt}
-use Rattle.trace.specs.Verdict.{count, poolLength, counted, laid, layoutOf, judgedOf, orElse, judgedFrom, recordOf, verdictOf, Good, nextAt}
+use Rattle.trace.specs.Verdict.{count, poolLength, counted, laid, layoutOf, judgedOf, orElse, judgedFrom, recordOf, verdictOf, Good, nextAt, numberOf}
 use Rattle.trace.specs.declared.Next.the-variants.{End, Bad, One}
 
 -- ---- a layout with nothing wrong
@@ -105,6 +105,18 @@ module _ (s : List ℕ) (i : ℕ) where
   pub next-wrong : (n : ℕ) → n ≡ layoutOf s → (n ≡ 0 → ⊥) → Bad n ≡ nextAt s i
   unfolding nextAt
   next-wrong n e f = rw (ne-eqb (layoutOf s) 0 (λ w. f (e ∙ w)), e)
+
+  -- the number of what stands there: the layout's, else the record's, and 0 past the last
+  pub next-number : numberOf (nextAt s i) ≡ orElse (layoutOf s) (pick (ltb i (count s)) (judgedOf s i) 0)
+  unfolding nextAt
+  next-number = go (eqb (layoutOf s) 0) (ltb i (count s)) (eqb (judgedOf s i) 0) refl
+    where
+      go : (a b c : Bool) → eqb (judgedOf s i) 0 ≡ c
+          → numberOf (pick a (pick b (pick c (One (recordOf s i)) (Bad (judgedOf s i))) End) (Bad (layoutOf s))) ≡ pick a (pick b (judgedOf s i) 0) (layoutOf s)
+      go true true true e = sym (eqb-true (judgedOf s i) 0 e)
+      go true true false e = refl
+      go true false c e = refl
+      go false b c e = refl
 
 -- ---- the verdict
 
