@@ -17,7 +17,7 @@ use Rattle.trace.specs.Verdict.{count}
 use Rattle.play.specs.Log.{logFrom}
 use Rattle.play.specs.Text.{logText}
 use Rattle.play.specs.declared.Show.{Show}
-use Rattle.desk.specs.Desk.{Parted, mayPlay, Pieced, Begun, Replayed}
+use Rattle.desk.specs.Desk.{Parted, mayPlay, Pieced, Replayed}
 use Rattle.desk.specs.declared.Part.{Part}
 use Rattle.desk.specs.declared.Played.{Played}
 use Rattle.desk.proofs.begin.Reads as begin-promise

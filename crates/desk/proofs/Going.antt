@@ -1,13 +1,12 @@
 -- What a loop over the records of a trace keeps: the device is that of a run over those told, and so is their text.
-use mathlib.Core.Bool.{Bool, true, false, true≢false}
+use mathlib.Core.Bool.{Bool, true, false}
 use mathlib.Core.Path.{_≡_, refl, ap, sym, _∙_}
-use mathlib.Core.List.{List, [], _∷_, _++_}
+use mathlib.Core.List.{List, _∷_, _++_}
 use Prim.Native.Nat.{ℕ, zero, suc, _+_, _*_, _-_, _≤_, _<_}
 use native.Mathlib.Omega.{arith}
 use borrow.Author.Tests.{eqb-true, eqb-false, ltb-true, lt-ltb}
 use lib.Dec.{eqb, ltb}
 use lib.ListN.{length}
-use Rattle.words.specs.Pick.{pick}
 use Rattle.words.specs.Actions.{Emitted}
 use Rattle.words.proofs.Actions.{still, then, worded, long}
 use Rattle.words.proofs.Picks.{pick-both}

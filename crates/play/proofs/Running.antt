@@ -1,16 +1,15 @@
 -- What an answer with words enough tells of its operation: the count is within bounds, its text is the operation's, the
 -- record has run.
-use mathlib.Core.Bool.{Bool, true, false, true≢false}
+use mathlib.Core.Bool.{Bool, true, false}
 use mathlib.Core.Path.{_≡_, refl, ap, sym, subst, _∙_}
-use mathlib.Core.List.{List, []}
-use Prim.Native.Nat.{ℕ, _+_, _*_, _≤_, _<_, _^_}
+use mathlib.Core.List.{List}
+use Prim.Native.Nat.{ℕ, _*_, _≤_, _<_, _^_}
 use native.Mathlib.Omega.{arith}
-use borrow.Author.Tests.{eq-eqb, ne-eqb, eqb-true, leb-true, ltb-true}
-use lib.Dec.{eqb, leb, ltb}
+use borrow.Author.Tests.{eq-eqb, ne-eqb, leb-true, ltb-true}
+use lib.Dec.{eqb}
 use lib.ListN.{length}
-use lib.Seq.{sets, length-sets}
-use Rattle.words.specs.Pick.{pick}
-use Rattle.words.specs.Actions.{Emitted, wordsOfAll}
+use lib.Seq.{length-sets}
+use Rattle.words.specs.Actions.{wordsOfAll}
 use Rattle.words.proofs.Actions.{still, worded}
 use Rattle.words.proofs.Picks.{pick-both}
 use Rattle.tape.specs.Play.{laid}

@@ -1,6 +1,6 @@
 -- Text written piece by piece, the two ways to write a reply, and the room asked for.
 use mathlib.Core.Path.{_≡_, refl, ap, sym, _∙_}
-use mathlib.Core.Bool.{Bool, true, false, true≢false}
+use mathlib.Core.Bool.{Bool, true, false}
 use mathlib.Core.List.{List, [], _∷_, _++_}
 use Prim.Native.Nat.{ℕ, _+_, _-_, _≤_, _<_}
 use native.Mathlib.Numerals.{add-one}
@@ -9,7 +9,6 @@ use borrow.Author.Tests.{eq-eqb, ne-eqb, le-leb, lt-leb, leb-true, leb-false}
 use lib.Dec.{leb}
 use lib.ListN.{length, take, getD}
 use lib.Seq.{take-suc}
-use Rattle.words.specs.Pick.{pick}
 use Rattle.words.proofs.Picks.{pick-both}
 use Rattle.text.specs.Numerals.{pair, pairs}
 use Rattle.text.specs.Lines.{replyText}
