@@ -4,6 +4,8 @@
 //! The registrations of mmio_state.rs: what an activation asks, what is undone after a refusal, what a state reset tells.
 //! The two ways of undoing miss what was registered, as in the Rust: document 01 wants them so in this version.
 
+#![tactic(auto)]
+
 ghost use Rattle.std.specs.Prelude.{◌≡◌, Bool, true, false, ℕ, ◌+◌};
 ghost use Rattle.words.specs.Pick.{pick};
 ghost use Rattle.tape.specs.Actions.{act};
@@ -20,7 +22,7 @@ use virtq::QueueIndex;
 use words::Action;
 
 /// Where a registration was refused.
-#[derive(Drop)]
+#[derive(Clone, Copy)]
 pub enum Place {
     All,
     Door(QueueIndex),
@@ -28,14 +30,14 @@ pub enum Place {
 }
 
 /// The tape after the registrations, and where they were refused.
-#[derive(Drop)]
+#[derive(Clone, Copy)]
 pub struct Tried {
     pub tape: Tape,
     pub place: Place,
 }
 
 /// The tape after the last record, and whether every request was accepted.
-#[derive(Drop)]
+#[derive(Clone, Copy)]
 pub struct Begun {
     pub tape: Tape,
     pub ok: bool,

@@ -20,7 +20,7 @@ use virtq::QueueIndex;
 
 // ---- a line of the script
 
-#[derive(Drop)]
+#[derive(Clone, Copy)]
 struct Line {
     verb: u8,
     hidden: bool,

@@ -14,7 +14,7 @@ use play::{RECORD_ROOM, Ran, Show};
 use trace::{Next, Record};
 
 /// Where the running of records has come to: the device, the next record, the next place in the buffer.
-#[derive(Drop)]
+#[derive(Clone, Copy)]
 pub struct Part {
     pub device: MmioV2Device,
     pub next: usize,
@@ -23,7 +23,7 @@ pub struct Part {
 
 /// A whole trace: the device at its end, how many bytes its text has, and whether there was room for it.
 #[repr(C)]
-#[derive(Drop)]
+#[derive(Clone, Copy)]
 pub struct Played {
     pub device: MmioV2Device,
     pub len: usize,

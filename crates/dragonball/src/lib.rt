@@ -10,6 +10,8 @@
 
 //! Related to Dragonball MMIO extension.
 
+#![tactic(auto)]
+
 ghost use Rattle.std.specs.Prelude.{◌≡◌, ℕ, ◌<◌};
 ghost use Rattle.words.specs.Pick.{pick};
 ghost use Rattle.dragonball.specs.Vendor.{feature_bits, fresh_doorbell, vendor_word};
@@ -123,7 +125,7 @@ pub const REG_MMIO_MSI_CMD_UPDATE: u64 = 0x1;
 /// Support per-virtque doorbell, so the guest kernel may directly write to the doorbells provided
 /// by hardware virtio devices.
 #[repr(C)]
-#[derive(Drop)]
+#[derive(Clone, Copy)]
 pub struct DoorBell {
     offset: u32,
     scale: u32,
@@ -169,7 +171,7 @@ impl DoorBell {
 // In mmio_state.rs and mmio_v2.rs what follows is spread over functions with other work. Here each rule is a function.
 
 /// A message command taken apart.
-#[derive(Drop)]
+#[derive(Clone, Copy)]
 pub struct MsiCommand {
     pub code: u16,
     pub argument: u16,

@@ -3,6 +3,8 @@
 
 //! What the gateway hands over to mmio_state.rs: its refusals, what is kept of it, and a fresh device's parts.
 
+#![tactic(auto)]
+
 ghost use Rattle.std.specs.Prelude.{◌≡◌, true, not, ℕ, ◌≤◌, eqb, get_or};
 ghost use Rattle.words.specs.Pick.{below, pick};
 ghost use Rattle.words.specs.Lists.{each};
@@ -21,7 +23,7 @@ pub const MAX_REGIONS: usize = 8;
 
 /// A shared-memory region: where it lies in the list, and how long it is.
 #[repr(C)]
-#[derive(Drop)]
+#[derive(Clone, Copy)]
 pub struct Region {
     pub offset: u64,
     pub length: u64,
@@ -29,7 +31,7 @@ pub struct Region {
 
 /// What the gateway hands over, as it is given.
 #[repr(C)]
-#[derive(Drop)]
+#[derive(Clone, Copy)]
 pub struct Configuration {
     pub base: u64,
     pub size: u64,
@@ -52,7 +54,7 @@ pub struct Configuration {
 
 /// What of an accepted configuration the device goes by. Entries past the counts are 0.
 #[repr(C)]
-#[derive(Drop)]
+#[derive(Clone, Copy)]
 pub struct Config {
     pub base: u64,
     pub memory: Memory,
@@ -70,7 +72,7 @@ pub struct Config {
 
 /// `device_activated`, `ioevent_registered`, and whether interrupts are enabled.
 #[repr(C)]
-#[derive(Drop)]
+#[derive(Clone, Copy)]
 pub struct Flags {
     pub active: bool,
     pub registered: bool,
@@ -79,7 +81,7 @@ pub struct Flags {
 
 /// A vector's stored message, and its mask.
 #[repr(C)]
-#[derive(Drop)]
+#[derive(Clone, Copy)]
 pub struct Vector {
     pub low: u32,
     pub high: u32,
@@ -89,7 +91,7 @@ pub struct Vector {
 
 /// An accepted configuration, or the number of its refusal and zeros.
 #[repr(C)]
-#[derive(Drop)]
+#[derive(Clone, Copy)]
 pub struct Configured {
     pub refusal: u32,
     pub config: Config,

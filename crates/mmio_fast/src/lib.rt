@@ -23,7 +23,7 @@ use virtq::{Field, MAX_QUEUES, Queue, QueueIndex};
 /// What is told of an operation beside the device: refusal 7 or 0, how many reply bytes were written (0: there is no
 /// reply), and the number of action records. Two registers' worth, so that it comes back without memory.
 #[repr(C)]
-#[derive(Drop)]
+#[derive(Clone, Copy)]
 pub struct Told {
     pub refusal: u32,
     pub reply: u32,
@@ -32,7 +32,7 @@ pub struct Told {
 
 /// A write the long way: what is told, and then the device, so that what is told lies in front.
 #[repr(C)]
-#[derive(Drop)]
+#[derive(Clone, Copy)]
 pub struct Wrote {
     pub told: Told,
     pub device: MmioV2Device,
@@ -41,7 +41,7 @@ pub struct Wrote {
 /// Whether the short way is enough, and its one number: a register's word, or the interrupt bits after a write. Where it is
 /// not enough, a write's number is the interrupt bits as they are, so that they may be stored without asking.
 #[repr(C)]
-#[derive(Drop)]
+#[derive(Clone, Copy)]
 pub struct Quick {
     pub value: u32,
     pub done: bool,
@@ -49,7 +49,7 @@ pub struct Quick {
 
 /// A raise whole: the interrupt bits after it, and what is told.
 #[repr(C)]
-#[derive(Drop)]
+#[derive(Clone, Copy)]
 pub struct Raised {
     pub bits: u32,
     pub told: Told,

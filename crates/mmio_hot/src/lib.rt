@@ -3,6 +3,8 @@
 
 //! The polled registers that mmio_state.rs keeps, and what a write to the message registers asks for.
 
+#![tactic(auto)]
+
 ghost use Rattle.std.specs.Prelude.{◌≡◌};
 ghost use Rattle.mmio_hot.specs.Commands.{command_at, csr_of};
 ghost use Rattle.mmio_hot.specs.Polled.{failed, selecting, with_status, wiped_hot};
@@ -16,7 +18,7 @@ use virtq::VectorIndex;
 /// `features_select`, `acked_features_select`, `queue_select`, `shm_region_id`, whether a doorbell stands and whether
 /// MSI is on. Numbers only, and first in the device.
 #[repr(C)]
-#[derive(Drop)]
+#[derive(Clone, Copy)]
 pub struct Hot {
     pub status: u32,
     pub interrupts: u32,
@@ -30,7 +32,7 @@ pub struct Hot {
 }
 
 /// What a write to the control register asks for.
-#[derive(Drop)]
+#[derive(Clone, Copy)]
 pub enum Csr {
     Locked,
     Stay,
@@ -38,7 +40,7 @@ pub enum Csr {
 }
 
 /// What a message command asks for.
-#[derive(Drop)]
+#[derive(Clone, Copy)]
 pub enum Command {
     Update(VectorIndex),
     Mask(VectorIndex),

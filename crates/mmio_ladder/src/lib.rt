@@ -26,7 +26,7 @@ pub const DEVICE_STATUS_FEATURE_OK: u32 = 0xb;
 pub const DEVICE_STATUS_DRIVER_OK: u32 = 0xf;
 
 /// What a value written to the status register asks for.
-#[derive(Drop)]
+#[derive(Clone, Copy)]
 pub enum Move {
     /// The next rung, which asks nothing of the device.
     Take(u32),

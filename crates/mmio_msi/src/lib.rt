@@ -4,6 +4,8 @@
 //! The message functions of mmio_state.rs. They stand apart from the state's other functions so that each crate is checked
 //! in half a minute.
 
+#![tactic(auto)]
+
 ghost use Rattle.std.specs.Prelude.{◌≡◌, true, false, ◌&&◌, [], ◌∷◌, ◌%◌, ◌^◌, ◌<◌, ◌≤◌, length};
 ghost use Rattle.words.specs.Pick.{pick};
 ghost use Rattle.msi.specs.Stage.{with_address_high, with_address_low, with_data};

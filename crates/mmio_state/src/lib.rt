@@ -4,6 +4,8 @@
 //! The state of Virtio Mmio device, by value: what the Rust keeps behind a mutex and in atomics. Backends are asked through
 //! the action list; `k` says how many answered requests are accepted.
 
+#![tactic(auto)]
+
 ghost use Rattle.std.specs.Prelude.{◌≡◌, true, false, ◌≤◌, length};
 ghost use Rattle.words.specs.Pick.{pick};
 ghost use Rattle.tape.specs.Actions.{ack_features};
@@ -27,7 +29,7 @@ pub const ACTION_WORDS: usize = 320;
 
 /// The state of Virtio Mmio device.
 #[repr(C)]
-#[derive(Drop)]
+#[derive(Clone, Copy)]
 pub struct MmioV2DeviceState {
     pub hot: Hot,
     pub config: Config,
@@ -40,7 +42,7 @@ pub struct MmioV2DeviceState {
 
 /// A fresh state, or the number of its refusal and a state of zeros.
 #[repr(C)]
-#[derive(Drop)]
+#[derive(Clone, Copy)]
 pub struct Made {
     pub refusal: u32,
     pub state: MmioV2DeviceState,
@@ -49,7 +51,7 @@ pub struct Made {
 /// What came of an operation that asks something: the state, refusal 7 or 0, whether what was asked was accepted, and the
 /// number of action records.
 #[repr(C)]
-#[derive(Drop)]
+#[derive(Clone, Copy)]
 pub struct Done {
     pub state: MmioV2DeviceState,
     pub refusal: u32,

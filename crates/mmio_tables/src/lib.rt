@@ -3,6 +3,8 @@
 
 //! One entry of each table that mmio_state.rs keeps: queues, regions, registrations, vectors.
 
+#![tactic(auto)]
+
 ghost use Rattle.std.specs.Prelude.{◌≡◌, get_or};
 ghost use Rattle.mmio_config.specs.Fresh.{no_vector};
 ghost use Rattle.mmio_tables.specs.Tables.{counted, entry_of, field_at, found_at, masked_at, size_at, standing_at, stands_in, stored_at, updatable, updated_at, valid_all, vector_at};
@@ -14,7 +16,7 @@ use virtq::{Field, MAX_QUEUES, Memory, Queue, QueueIndex, Scan, VectorIndex};
 
 /// The selected region, if there is one.
 #[repr(C)]
-#[derive(Drop)]
+#[derive(Clone, Copy)]
 pub struct Found {
     pub there: bool,
     pub region: Region,
@@ -22,14 +24,14 @@ pub struct Found {
 
 /// A field of a queue, or refusal 13 and 0.
 #[repr(C)]
-#[derive(Drop)]
+#[derive(Clone, Copy)]
 pub struct Reply {
     pub refusal: u32,
     pub value: u32,
 }
 
 /// Which of a queue's registrations is asked about.
-#[derive(Drop)]
+#[derive(Clone, Copy)]
 pub enum Kind {
     Doorbell,
     Notify,
@@ -37,7 +39,7 @@ pub enum Kind {
 
 /// Whether a registration stands and its operands, or refusal 13 and zeros.
 #[repr(C)]
-#[derive(Drop)]
+#[derive(Clone, Copy)]
 pub struct Standing {
     pub refusal: u32,
     pub stands: bool,

@@ -25,14 +25,14 @@ use virtq::{Field, QueueIndex};
 
 /// Implements the MMIO transport for virtio devices, on the state by value.
 #[repr(C)]
-#[derive(Drop)]
+#[derive(Clone, Copy)]
 pub struct MmioV2Device {
     pub state: MmioV2DeviceState,
 }
 
 /// A fresh device, or the number of its refusal and a device of zeros.
 #[repr(C)]
-#[derive(Drop)]
+#[derive(Clone, Copy)]
 pub struct MadeDevice {
     pub refusal: u32,
     pub device: MmioV2Device,
@@ -41,7 +41,7 @@ pub struct MadeDevice {
 /// What came of an operation: the device, refusal 7 or 0, how many reply bytes were written (0: there is no reply), and the
 /// number of action records.
 #[repr(C)]
-#[derive(Drop)]
+#[derive(Clone, Copy)]
 pub struct Answer {
     pub device: MmioV2Device,
     pub refusal: u32,
@@ -50,7 +50,7 @@ pub struct Answer {
 }
 
 /// What a read of a register shows: so many bytes of a value; none of one that isn't there.
-#[derive(Drop)]
+#[derive(Clone, Copy)]
 pub struct Shown {
     pub width: usize,
     pub value: u32,

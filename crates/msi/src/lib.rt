@@ -7,12 +7,14 @@
 //! is lent a message and changes it there, and `staged_` returns what `set_` makes of its own copy, for callers that pass
 //! messages by value.
 
+#![tactic(auto)]
+
 ghost use Rattle.std.specs.Prelude.{◌≡◌};
 ghost use Rattle.msi.specs.Stage.{no_message, with_address_high, with_address_low, with_data, with_index_select};
 
 /// MSI interrupts.
 #[repr(C)]
-#[derive(Drop)]
+#[derive(Clone, Copy)]
 pub struct Msi {
     pub index_select: u32,
     pub address_low: u32,

@@ -20,14 +20,14 @@ pub const RECORD_ROOM: usize = 10304;
 
 /// Which lines are added to a record's own.
 #[repr(C)]
-#[derive(Drop)]
+#[derive(Clone, Copy)]
 pub struct Show {
     pub actions: bool,
     pub fields: bool,
 }
 
 /// What came of a record: the device after it, the next place in the buffer, and whether it ran at all.
-#[derive(Drop)]
+#[derive(Clone, Copy)]
 pub struct Ran {
     pub device: MmioV2Device,
     pub at: usize,

@@ -21,6 +21,8 @@
 //! version 1 is called legacy mode, and the version 2 is preferred currently. The common parts
 //! of both versions are defined here.
 
+#![tactic(auto)]
+
 ghost use Rattle.std.specs.Prelude.{◌≡◌};
 ghost use Rattle.registers.specs.Rows.{find};
 ghost use Rattle.registers.specs.Registers.{read_at, read_rows, write_at, write_rows};
@@ -150,7 +152,7 @@ pub const REG_MMIO_CONFIG_GENERATI: u64 = 0x0fc;
 pub const REG_MMIO_CONFIG: u64 = 0x100;
 
 /// What a read names. The configuration has its own offset beside it.
-#[derive(Drop)]
+#[derive(Clone, Copy)]
 pub enum ReadRegister {
     MagicValue,
     Version,
@@ -173,7 +175,7 @@ pub enum ReadRegister {
 }
 
 /// What a write names. The eight queue-field registers are one, with the field's kind.
-#[derive(Drop)]
+#[derive(Clone, Copy)]
 pub enum WriteRegister {
     DeviceFeatureSel,
     DriverFeature,

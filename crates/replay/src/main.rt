@@ -7,7 +7,7 @@ use text::LINE_ROOM;
 use trace::MAX_RECORDS;
 
 // What is shown of the files to come, and whether one was named yet.
-#[derive(Drop)]
+#[derive(Clone, Copy)]
 struct Wanted {
     show: Show,
     named: bool,

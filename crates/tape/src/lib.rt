@@ -1,6 +1,8 @@
 //! The action list of one operation, and the held table that its outcomes change. The Rust has neither: it calls its
 //! backends, and this port asks them through the list (document 01, "Actions").
 
+#![tactic(auto)]
+
 ghost use Rattle.std.specs.Prelude.{◌≡◌, ℕ, ◌+◌, ◌*◌, ◌≤◌, length};
 ghost use Rattle.tape.specs.Actions.{answered};
 ghost use Rattle.tape.specs.Held.{bell, bell_address, equal, held_one, held_queue, left_after, note, note_address, register, stands, unregister};
@@ -38,7 +40,7 @@ pub const ACTION_WRITE_CONFIG: u64 = 13;
 
 /// What a registration is made with.
 #[repr(C)]
-#[derive(Drop)]
+#[derive(Clone, Copy)]
 pub struct Entry {
     pub queue: u64,
     pub address: u64,
@@ -48,14 +50,14 @@ pub struct Entry {
 
 /// Which of a queue's two registrations stand. Their operands follow from the queue's number and the window's base.
 #[repr(C)]
-#[derive(Drop)]
+#[derive(Clone, Copy)]
 pub struct Held {
     pub bell: bool,
     pub note: bool,
 }
 
 /// How many records were written, how many more requests will be accepted, and the held table so far.
-#[derive(Drop)]
+#[derive(Clone, Copy)]
 pub struct Tape {
     pub count: usize,
     pub left: u32,

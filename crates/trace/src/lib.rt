@@ -20,7 +20,7 @@ pub const MAX_RECORDS: u32 = 2000;
 pub const MAX_DATA: u32 = 4096;
 
 /// One record: a read, a write or a raise.
-#[derive(Drop)]
+#[derive(Clone, Copy)]
 pub struct Record {
     pub kind: u32,
     pub k: u32,
@@ -30,7 +30,7 @@ pub struct Record {
 }
 
 /// What stands at a place of a trace.
-#[derive(Drop)]
+#[derive(Clone, Copy)]
 pub enum Next {
     /// No record is left.
     End,
@@ -41,14 +41,14 @@ pub enum Next {
 }
 
 // The block in four parts, so that no function reads more than seven numbers.
-#[derive(Drop)]
+#[derive(Clone, Copy)]
 struct Window {
     base: u64,
     size: u64,
     memory: u64,
 }
 
-#[derive(Drop)]
+#[derive(Clone, Copy)]
 struct Traits {
     kind: u32,
     given: bool,
@@ -59,7 +59,7 @@ struct Traits {
     page1: u32,
 }
 
-#[derive(Drop)]
+#[derive(Clone, Copy)]
 struct Amounts {
     vectors: u32,
     dataqueues: u32,

@@ -1,5 +1,7 @@
 //! Queues by document 01's own rules: `virtio_queue`, which the Rust leans on, was not among the papers.
 
+#![tactic(auto)]
+
 ghost use Rattle.std.specs.Prelude.{◌≡◌, ℕ, min};
 ghost use Rattle.virtq.specs.Index.{max_queues, vector_of};
 ghost use Rattle.virtq.specs.Fields.{field_numbered, field_of, fields_of, fit, fresh_queue, power_of_two, put, size_fit, updated};
@@ -10,12 +12,12 @@ pub const MAX_QUEUES: usize = 16;
 
 /// A queue's number: its place in the table. A guest's selector is one, whether or not such a queue is there.
 #[repr(C)]
-#[derive(Drop)]
+#[derive(Clone, Copy)]
 pub struct QueueIndex(pub u32);
 
 /// A vector's number. It is wider than a queue's, so that each queue's vector has one.
 #[repr(C)]
-#[derive(Drop)]
+#[derive(Clone, Copy)]
 pub struct VectorIndex(pub u64);
 
 impl QueueIndex {
@@ -28,7 +30,7 @@ impl QueueIndex {
 }
 
 /// A queue's fields, one for each queue-field register.
-#[derive(Drop)]
+#[derive(Clone, Copy)]
 pub enum Field {
     Size,
     Ready,
@@ -58,7 +60,7 @@ pub fn field_numbered(n: u32) -> Field
 
 /// What a guest laid out of one queue. Its maximum size is configuration, and stands elsewhere.
 #[repr(C)]
-#[derive(Drop)]
+#[derive(Clone, Copy)]
 pub struct Queue {
     pub size: u16,
     pub ready: bool,
@@ -232,7 +234,7 @@ impl Queue {
 
 /// The guest's memory: one range from address 0.
 #[repr(C)]
-#[derive(Drop)]
+#[derive(Clone, Copy)]
 pub struct Memory {
     pub length: u64,
 }
@@ -257,7 +259,7 @@ pub fn address(low: u32, high: u32) -> u64
 }
 
 /// What the scan finds.
-#[derive(Drop)]
+#[derive(Clone, Copy)]
 pub enum Scan {
     All,
     At(QueueIndex),

@@ -1,0 +1,17 @@
+use Prim.Native.Nat.{◌-◌}
+use Rattle.mmio_config.proofs.Loops.{filling-more, filling-last}
+use native.Mathlib.Omega.{arith}
+use borrow.Author.Rules.{rules}
+use Rattle.mmio_config.proofs.create_queues.Goals as goal
+
+pub loop-i-init : goal.loop-i-init
+loop-i-init c = record { is = rw c.fresh-none.ensures; within = omega arith }
+
+pub loop-i-smaller : goal.loop-i-smaller
+loop-i-smaller c = omega arith
+
+pub loop-i-preserved : goal.loop-i-preserved
+loop-i-preserved c = filling-more c.loop-i.invariant 0 _ (search rules) c.fresh.ensures
+
+pub returns : goal.returns
+returns c = filling-last c.loop-i.invariant (search rules) (search rules)

@@ -1,0 +1,18 @@
+use Prim.Native.Nat.{◌-◌}
+use mathlib.Core.Path.{refl}
+use Rattle.mmio_config.proofs.Loops.{filling-more, filling-last}
+use native.Mathlib.Omega.{arith}
+use borrow.Author.Rules.{rules}
+use Rattle.mmio_config.proofs.maxima.Goals as goal
+
+pub loop-i-init : goal.loop-i-init
+loop-i-init c = record { is = refl; within = omega arith }
+
+pub loop-i-smaller : goal.loop-i-smaller
+loop-i-smaller c = omega arith
+
+pub loop-i-preserved : goal.loop-i-preserved
+loop-i-preserved c = filling-more c.loop-i.invariant 0 _ (search rules) c.maximum_at.ensures
+
+pub returns : goal.returns
+returns c = filling-last c.loop-i.invariant (search rules) (search rules)

@@ -1,0 +1,15 @@
+use native.Mathlib.Omega.{arith}
+use borrow.Author.Tests.{lt-ltb, le-ltb}
+use Rattle.mmio_tables.proofs.field_at.Goals as goal
+
+pub offset_bounds-queues-at : goal.offset_bounds-queues-at
+offset_bounds-queues-at c = omega (arith, c.queues_in.ensures, c.if-q-queues_in.true)
+
+pub bounds-queues-at : goal.bounds-queues-at
+bounds-queues-at c = omega (arith, c.queues_in.ensures, c.if-q-queues_in.true)
+
+pub returns-then-q-queues_in : goal.returns-then-q-queues_in
+returns-then-q-queues_in c = rw (lt-ltb _ _ (rw c.queues_in.ensures at c.if-q-queues_in.true)) c.get.ensures
+
+pub returns : goal.returns
+returns c = rw (le-ltb _ _ (rw c.queues_in.ensures at c.if-q-queues_in.false))

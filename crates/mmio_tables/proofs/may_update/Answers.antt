@@ -1,0 +1,5 @@
+use Rattle.mmio_tables.proofs.Tables.{update-bound}
+use Rattle.mmio_tables.proofs.may_update.Goals as goal
+
+pub returns : goal.returns
+returns c = update-bound c.args.dataqueues c.args.v.0

@@ -1,0 +1,31 @@
+use Rattle.words.proofs.Bytes.{overwritten, short_write}
+use lib.ListN.{length-set}
+use native.Mathlib.Omega.{arith}
+use Rattle.words.proofs.write_u64.Goals as goal
+
+pub returns-then-s-lt8 : goal.returns-then-s-lt8
+returns-then-s-lt8 c = short_write 8 _ _ c.if-s-lt8.true
+
+pub bounds-s-1 : goal.bounds-s-1
+bounds-s-1 c = simp length-set (omega arith)
+
+pub bounds-s-2 : goal.bounds-s-2
+bounds-s-2 c = simp length-set (omega arith)
+
+pub bounds-s-3 : goal.bounds-s-3
+bounds-s-3 c = simp length-set (omega arith)
+
+pub bounds-s-4 : goal.bounds-s-4
+bounds-s-4 c = simp length-set (omega arith)
+
+pub bounds-s-5 : goal.bounds-s-5
+bounds-s-5 c = simp length-set (omega arith)
+
+pub bounds-s-6 : goal.bounds-s-6
+bounds-s-6 c = simp length-set (omega arith)
+
+pub bounds-s-7 : goal.bounds-s-7
+bounds-s-7 c = simp length-set (omega arith)
+
+pub returns : goal.returns
+returns c = overwritten 7 _ _ c.if-s-lt8.false
