@@ -4,6 +4,8 @@
 
 //! What single registers show and do: the functions of mmio_v2.rs that its `read` and `write` call, on the state by value.
 
+#![tactic(auto)]
+
 ghost use Rattle.std.specs.Prelude.{◌≡◌, true, false, [], ◌∷◌, ◌≤◌, length};
 ghost use Rattle.tape.specs.Actions.{act};
 ghost use Rattle.tape.specs.Play.{laid};

@@ -5,6 +5,8 @@
 //! The ladder of status: `update_driver_status` of mmio_v2.rs, on the state by value. A written value is first read as the
 //! move that it asks for; the state then makes that move.
 
+#![tactic(auto)]
+
 ghost use Rattle.std.specs.Prelude.{◌≡◌, true, false, ◌≤◌, length};
 ghost use Rattle.words.specs.Pick.{pick};
 ghost use Rattle.tape.specs.Play.{laid};

@@ -5,6 +5,8 @@
 //! The device: the state by value, with read, write and raise as methods that hand the new state back. Each asks its host
 //! through lent action words, and is refused (7) before anything else where those are below 320.
 
+#![tactic(auto)]
+
 ghost use Rattle.std.specs.Prelude.{◌≡◌, true, ◌%◌, ◌≤◌, length};
 ghost use Rattle.std.proofs.lemmas.List.Edits.{sets};
 ghost use Rattle.tape.specs.Play.{laid};
