@@ -1,6 +1,8 @@
 //! A reader that keeps the trace and its place (document 01, "Forms to follow in each place"). It does no work of its own:
 //! what stands at a place is `trace::next_record`'s to say.
 
+#![tactic(auto)]
+
 ghost use Rattle.std.specs.Prelude.{◌≡◌};
 ghost use Rattle.trace.specs.Verdict.{next_at};
 ghost use Rattle.reader.specs.Reader.{Keeps, found_by};

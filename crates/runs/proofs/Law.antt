@@ -44,7 +44,7 @@ module _ {Op Known S : Type 0} (R : Rules Op Known) (b : Start Known) (next : S 
       }
 
   agrees : (log : List Op) → Agrees (run_from next s₀ log) (reading R b log)
-  agrees [] = record { kind = B.kind; same_known = B.Knows-start; same-queues = refl }
+  agrees [] = record { kind = B.kind; same_known = B.knows_start; same-queues = refl }
   agrees (op ∷ log) = step-agrees (run_from next s₀ log) (reading R b log) op (agrees log)
 
   pub reads-afresh : (log : List Op) (q : ℕ) (f : Field) → first R.count (fields_of (queues_of (run_from next s₀ log))) q f ≡ field_from_log R b log q f

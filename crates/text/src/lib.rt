@@ -1,6 +1,8 @@
 //! The text that a replay of a trace prints (document 01, "The trace"), laid over a lent buffer line by line. Each line asks
 //! for a fixed number of bytes; where they are not left, nothing is written and the place stays.
 
+#![tactic(auto)]
+
 ghost use Rattle.std.specs.Prelude.{◌≡◌, [], ◌∷◌, ◌+◌, ◌≤◌, ◌<◌, length};
 ghost use Rattle.words.specs.Actions.{Emitted};
 ghost use Rattle.words.specs.Pick.{pick};

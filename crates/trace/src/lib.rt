@@ -1,6 +1,8 @@
 //! The trace: its layout, the configuration block, one record, and the verdict on any bytes (document 01, "The trace"). The
 //! Rust has no such file; it is the night desk's.
 
+#![tactic(auto)]
+
 ghost use Rattle.std.specs.Prelude.{◌≡◌, ◌≤◌};
 ghost use Rattle.trace.specs.Numbers.{half_at, long_at, word_at};
 ghost use Rattle.trace.specs.Block.{amounts_at, block_at, regions_at, share_at, sizes_at, traits_at, window_at};

@@ -1,0 +1,4 @@
+use Rattle.trace.proofs.record_at.Goals as goal
+
+pub returns : goal.returns
+returns c = cc
