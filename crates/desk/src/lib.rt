@@ -1,5 +1,7 @@
 //! A trace's records, one after the other: as many as a lent buffer has room for, or the whole trace at once.
 
+#![tactic(auto)]
+
 ghost use Rattle.std.specs.Prelude.{◌≡◌, true, ◌+◌, ◌<◌, ◌≤◌, length};
 ghost use Rattle.mmio_state.specs.Fresh.{no_state};
 ghost use Rattle.mmio_v2.specs.Fresh.{device};

@@ -1,6 +1,8 @@
 //! The lines that an option adds to a record's own line: its action records, and the fields of each queue. Where there is no
 //! room for all of them none is written, and the place stays.
 
+#![tactic(auto)]
+
 ghost use Rattle.std.specs.Prelude.{◌≡◌, [], ◌+◌, ◌*◌, ◌≤◌, length};
 ghost use Rattle.words.specs.Actions.{Emitted};
 ghost use Rattle.words.specs.Pick.{pick};

@@ -2,6 +2,8 @@
 //! queues. Each answers whether that is enough; where it is, it comes to the full step (`proofs/Same.antt`). The Rust has
 //! no such way: there nothing is moved.
 
+#![tactic(auto)]
+
 ghost use Rattle.std.specs.Prelude.{◌≡◌, ◌≤◌, length};
 ghost use Rattle.words.specs.Bytes.{write_le};
 ghost use Rattle.mmio_v2.specs.Operation.{Read, Write};

@@ -1,5 +1,7 @@
 //! One record of a trace: run it on a device, which comes back with the record's text in a lent buffer.
 
+#![tactic(auto)]
+
 ghost use Rattle.std.specs.Prelude.{◌≡◌, true, [], ◌+◌, ◌*◌, ◌<◌, ◌≤◌, length};
 ghost use Rattle.words.specs.Actions.{Emitted};
 ghost use Rattle.words.specs.Pick.{pick};

@@ -1,0 +1,19 @@
+use borrow.Author.Tests.{eq-eqb, ne_eqb, lt-ltb, le-ltb}
+use Rattle.mmio_fast.specs.Quick.{quick_ready}
+use Rattle.mmio_fast.proofs.quick_ready.Goals as goal
+
+pub returns-then-room-lt-ACTION_WORDS : goal.returns-then-room-lt-ACTION_WORDS
+unfolding quick_ready
+returns-then-room-lt-ACTION_WORDS c = rw (lt-ltb _ _ c.if-room-lt-ACTION_WORDS.true) c.slow.ensures
+
+pub returns-then-offset-eq-REG_MMIO_QUEUE_READY : goal.returns-then-offset-eq-REG_MMIO_QUEUE_READY
+unfolding quick_ready
+returns-then-offset-eq-REG_MMIO_QUEUE_READY c = rw (le-ltb _ _ c.if-room-lt-ACTION_WORDS.false, eq-eqb _ _ c.if-len-eq4.true, eq-eqb _ _ c.if-offset-eq-REG_MMIO_QUEUE_READY.true) (cc)
+
+pub returns-then-len-eq4 : goal.returns-then-len-eq4
+unfolding quick_ready
+returns-then-len-eq4 c = rw (le-ltb _ _ c.if-room-lt-ACTION_WORDS.false, eq-eqb _ _ c.if-len-eq4.true, ne_eqb _ _ c.if-offset-eq-REG_MMIO_QUEUE_READY.false) (cc)
+
+pub returns : goal.returns
+unfolding quick_ready
+returns c = rw (le-ltb _ _ c.if-room-lt-ACTION_WORDS.false, ne_eqb _ _ c.if-len-eq4.false) (cc)
