@@ -1,6 +1,8 @@
 //! The device for C and Rust to link. `new` and the questions go by value. An access and a raise go by value, or behind a lent
 //! device: then with the same promises, and by the short way where that is enough. The polls are that short way alone.
 
+#![tactic(auto)]
+
 ghost use Rattle.std.specs.Prelude.{◌≡◌, length};
 ghost use Rattle.tape.specs.Play.{laid};
 ghost use Rattle.mmio_v2.specs.Fresh.{made_device};
