@@ -97,7 +97,7 @@ impl Msi {
 
     /// The message after `set_index_select`.
     pub fn staged_index_select(self, v: u32) -> Self
-        ensures { result ≡ with_index_select self v }
+        ensures staged { result ≡ with_index_select self v }
     {
         let mut staged = self;
         staged.set_index_select(v);
@@ -106,7 +106,7 @@ impl Msi {
 
     /// The message after `set_address_low`.
     pub fn staged_address_low(self, v: u32) -> Self
-        ensures { result ≡ with_address_low self v }
+        ensures staged { result ≡ with_address_low self v }
     {
         let mut staged = self;
         staged.set_address_low(v);
@@ -115,7 +115,7 @@ impl Msi {
 
     /// The message after `set_address_high`.
     pub fn staged_address_high(self, v: u32) -> Self
-        ensures { result ≡ with_address_high self v }
+        ensures staged { result ≡ with_address_high self v }
     {
         let mut staged = self;
         staged.set_address_high(v);
@@ -124,7 +124,7 @@ impl Msi {
 
     /// The message after `set_data`.
     pub fn staged_data(self, v: u32) -> Self
-        ensures { result ≡ with_data self v }
+        ensures staged { result ≡ with_data self v }
     {
         let mut staged = self;
         staged.set_data(v);
