@@ -10,7 +10,7 @@ use Rattle.words.specs.Lists.{up, down}
 use Rattle.words.specs.declared.Action.{Action}
 use Rattle.tape.specs.Actions.{enable_interrupts, activate_device, reset_device, reset_interrupts}
 use Rattle.tape.specs.Held.{entry, bell, note, bell_address, note_address, register, unregister}
-use Rattle.activation.specs.Requests.{Request, Bell, Note, Enable, Activate, turn, requests, reverts, bells_off, notes_off, wipes, record_of, after, asks, start_records, stop_records}
+use Rattle.activation.specs.Requests.{Request, Bell, Note, Enable, Activate, requests, reverts, wipes, after, asks, start_records, stop_records}
 
 pub data Every (P : Action → Type 0) : List Action → Type 0 where
   none : Every P []

@@ -2,19 +2,18 @@
 use mathlib.Core.Bool.{Bool, true, false, true≢false}
 use mathlib.Core.Path.{◌≡◌, refl, sym, ap, ◌∙◌}
 use mathlib.Core.List.{List, [], ◌∷◌}
-use Prim.Native.Nat.{ℕ, zero, suc, ◌+◌, ◌-◌, ◌<◌, ◌≤◌}
+use Prim.Native.Nat.{ℕ, suc, ◌+◌, ◌-◌, ◌<◌, ◌≤◌}
 use native.Mathlib.Nat.{sub-zero}
 use native.Mathlib.Omega.{arith}
 use lib.ListN.{length}
 use Rattle.words.specs.Pick.{pick}
-use Rattle.words.specs.declared.Action.{Action}
 use Rattle.virtq.specs.declared.QueueIndex.{QueueIndex}
 use Rattle.tape.specs.Actions.{enable_interrupts, activate_device}
 use Rattle.tape.specs.Held.{left_after, entry, register, unregister, bell, note}
 use Rattle.tape.specs.Play.{Sheet, sheet, one, play, Played}
 use Rattle.tape.proofs.Playing.{one_left, same-long}
 use Rattle.tape.specs.declared.Tape.{Tape}
-use Rattle.activation.specs.Requests.{Request, Bell, Note, Enable, Activate, turn, lasts, requests, wipes, record_of, after, asks, starts}
+use Rattle.activation.specs.Requests.{Request, Bell, Note, Enable, Activate, lasts, requests, wipes, record_of, after, asks, starts}
 use Rattle.activation.specs.Ties.{follow, goes, Turned, Gone, Began}
 use Rattle.activation.specs.declared.Place.{Place}
 use Rattle.activation.specs.declared.Place.TheVariants.{All, Door, Notify}

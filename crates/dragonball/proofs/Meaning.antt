@@ -1,6 +1,6 @@
 -- What the definitions come to.
-use Rattle.std.proofs.Common.{◌≡◌, ℕ, ◌+◌, ◌*◌, ◌/◌, ◌%◌, ◌^◌, ◌<◌, Bool, true, false, eqb, refl, ap, ◌∙◌, arith}
-use lib.Bits.{bit_or, or_shr, or_zero_l, or_lt}
+use Rattle.std.proofs.Common.{◌≡◌, ℕ, ◌+◌, ◌/◌, ◌%◌, ◌^◌, ◌<◌, Bool, true, false, eqb, refl, ap, ◌∙◌, arith}
+use lib.Bits.{bit_or, or_shr, or_zero_l}
 use Rattle.words.specs.Pick.{pick}
 use Rattle.words.specs.Bits.{bit, without}
 use Rattle.dragonball.specs.Vendor.{feature_bits, vendor_word, fresh_doorbell}

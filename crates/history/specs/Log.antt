@@ -18,7 +18,6 @@ use Rattle.mmio_hot.specs.Polled.{failed}
 use Rattle.mmio_hot.specs.Commands.{csr_of, command_at}
 use Rattle.mmio_hot.specs.declared.Csr.{Csr}
 use Rattle.mmio_hot.specs.declared.Csr.TheVariants.{Locked, Turn}
-use Rattle.mmio_hot.specs.declared.Csr.TheVariants as Csr
 use Rattle.mmio_hot.specs.declared.Command.{Command}
 use Rattle.mmio_hot.specs.declared.Command.TheVariants.{Update, Mask, Unmask, Other}
 use Rattle.mmio_config.specs.Fresh.{queue_count, maxima}

@@ -1,14 +1,14 @@
 -- THE CLAIM on the two register lists: they part at these accesses and at no other. docs/DIFFERENCES.md has a line for each.
-use mathlib.Core.Bool.{Bool, true, false}
+use mathlib.Core.Bool.{false}
 use mathlib.Core.Path.{◌≡◌, refl}
-use mathlib.Core.List.{List, [], ◌∷◌}
+use mathlib.Core.List.{[], ◌∷◌}
 use Prim.Native.Nat.{ℕ, ◌-◌, ◌≤◌, ◌<◌}
 use native.Mathlib.Omega.{arith}
 use borrow.Author.Tests.{le-leb, lt-leb, lt-ltb, le-ltb, ne_eqb}
 use lib.Dec.{eqb, leb}
 use Rattle.words.specs.Pick.{pick}
 use Rattle.registers.specs.Virtio12.{natural, QueueNotify, QueueReset}
-use Rattle.registers.specs.Apart.{Place, Named, Vendors, Own, Nowhere, MsiCsr, MsiCommand, MsiAddressLow, MsiAddressHigh, MsiData, Way, Read, Write, parting, partings, port_place, standard_place}
+use Rattle.registers.specs.Apart.{Named, Vendors, Own, Nowhere, MsiCsr, MsiCommand, MsiAddressLow, MsiAddressHigh, MsiData, Way, Read, Write, parting, partings, port_place, standard_place}
 
 -- below 0x100: the doorbell word where QueueNotify is only written; the vendor's five; QueueReset, which this port lacks
 pub registers-part : partings

@@ -1,8 +1,7 @@
 -- What of the standard's meanings the port's rules keep so far: rings, halves of addresses, regions. The rest stands with
 -- the device.
-use mathlib.Core.Bool.{Bool, true, false}
 use mathlib.Core.Path.{◌≡◌, refl, ap}
-use Prim.Native.Nat.{ℕ, ◌+◌, ◌*◌, ◌/◌, ◌%◌, ◌^◌, ◌<◌}
+use Prim.Native.Nat.{ℕ, ◌+◌, ◌*◌, ◌%◌, ◌^◌, ◌<◌}
 use native.Mathlib.Omega.{arith}
 use lib.Dec.{eqb}
 use Rattle.virtq.specs.declared.Field.TheVariants.{DescLow, AvailLow, UsedLow}

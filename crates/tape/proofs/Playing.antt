@@ -1,5 +1,5 @@
 -- Records played one after another: what is left to play from here comes to the whole.
-use Rattle.std.proofs.Common.{◌≡◌, ℕ, zero, suc, ◌+◌, ◌-◌, ◌*◌, ◌<◌, ◌≤◌, Bool, true, false, leb, List, [], ◌∷◌, ◌++◌, length, set, sym, refl, ap, ◌∙◌, add-zero, add-suc, suc-add, zero-add, arith, length-append, le-leb, leb-true}
+use Rattle.std.proofs.Common.{◌≡◌, ℕ, ◌+◌, ◌*◌, ◌≤◌, Bool, true, false, List, [], ◌∷◌, ◌++◌, length, sym, refl, ap, ◌∙◌, add-zero, zero-add, arith, le-leb, leb-true}
 use lib.Seq.{sets, length-sets}
 use Rattle.words.specs.Pick.{pick}
 use Rattle.words.specs.Actions.{Emitted, fitting, words_of, words_of_all}

@@ -1,12 +1,11 @@
 -- The held table: one record changes one queue's entries at most, and each entry is the fold of its own rule alone.
-use Rattle.std.proofs.Common.{◌≡◌, ℕ, zero, suc, ◌+◌, ◌-◌, ◌*◌, ◌/◌, ◌<◌, ◌≤◌, Bool, true, false, eqb, leb, List, [], ◌∷◌, length, get_or, set, sym, refl, ap, ◌∙◌, arith, eq-eqb, ne_eqb, le-leb, leb-false, leb-true}
+use Rattle.std.proofs.Common.{◌≡◌, ℕ, ◌+◌, ◌-◌, ◌*◌, ◌/◌, ◌<◌, ◌≤◌, Bool, true, false, eqb, leb, List, [], ◌∷◌, length, get_or, set, sym, refl, ap, ◌∙◌, arith, ne_eqb, le-leb, leb-false, leb-true}
 use borrow.Author.Tests.{lt-leb}
 use lib.Seq.{set_out}
 use Rattle.words.specs.Pick.{pick}
 use Rattle.words.specs.Lists.{each}
 use Rattle.words.proofs.Lists.{each_none, each-one, get_or-each, length-each}
 use Rattle.words.specs.declared.Action.{Action}
-use Rattle.tape.specs.Actions.{act}
 use Rattle.tape.specs.declared.Held.{Held}
 use Rattle.tape.specs.Held.{held_queue, held_one, held_after, left_after, no_held}
 

@@ -2,16 +2,16 @@
 use mathlib.Core.Bool.{Bool, true, false}
 use mathlib.Core.Path.{◌≡◌, refl, sym, ap, ◌∙◌}
 use Prim.Native.Nat.{ℕ, zero, suc, ◌+◌, ◌-◌, ◌≤◌, ◌<◌}
-use native.Mathlib.Nat.{sub-zero, add-zero, add-suc, suc-add, not-suc-le-zero, le_of_suc-le-suc}
+use native.Mathlib.Nat.{sub-zero, add-zero, not-suc-le-zero, le_of_suc-le-suc}
 use native.Mathlib.Omega.{arith}
 use borrow.Author.Tests.{le-leb, lt-leb, leb-true, leb-false}
 use lib.Dec.{leb}
-use Rattle.words.specs.Pick.{pick, below}
+use Rattle.words.specs.Pick.{pick}
 use Rattle.virtq.specs.declared.Memory.{Memory}
 use Rattle.virtq.specs.declared.Field.{Field}
 use Rattle.virtq.specs.declared.Scan.{Scan}
 use Rattle.virtq.specs.declared.Scan.TheVariants.{All, At}
-use Rattle.virtq.specs.Valid.{inside, valid, scanned}
+use Rattle.virtq.specs.Valid.{valid, scanned}
 
 -- the end is not past the memory exactly if the start is not past the memory less the length
 pub no-sum : (m start n : ℕ) → n ≤ m → leb start (m - n) ≡ leb (start + n) m

@@ -1,5 +1,4 @@
 use Rattle.activation.proofs.Turns.{is_all, gone-first, gone-more, gone-stop, gone-last}
-use Prim.Native.Nat.{◌-◌}
 use mathlib.Core.Path.{refl, ap}
 use native.Mathlib.Omega.{arith}
 use Rattle.activation.proofs.register_ioevent.Goals as goal

@@ -1,5 +1,4 @@
 use Rattle.tape.proofs.Loops.{rising-first, rising-more, rising-last}
-use Prim.Native.Nat.{◌-◌}
 use native.Mathlib.Omega.{arith}
 use Rattle.activation.proofs.unregister_ioevent_doorbell.Goals as goal
 

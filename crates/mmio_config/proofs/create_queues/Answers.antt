@@ -1,4 +1,3 @@
-use Prim.Native.Nat.{◌-◌}
 use Rattle.mmio_config.proofs.Loops.{filling-more, filling-last}
 use native.Mathlib.Omega.{arith}
 use borrow.Author.Rules.{rules}

@@ -1,5 +1,4 @@
 use Rattle.mmio_config.specs.Fresh.{no_region}
-use Prim.Native.Nat.{◌-◌}
 use mathlib.Core.Path.{refl}
 use Rattle.mmio_config.proofs.Loops.{filling-more, filling-last}
 use native.Mathlib.Omega.{arith}

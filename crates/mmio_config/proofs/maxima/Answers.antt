@@ -1,4 +1,3 @@
-use Prim.Native.Nat.{◌-◌}
 use mathlib.Core.Path.{refl}
 use Rattle.mmio_config.proofs.Loops.{filling-more, filling-last}
 use native.Mathlib.Omega.{arith}

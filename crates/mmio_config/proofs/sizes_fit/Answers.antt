@@ -1,4 +1,3 @@
-use Prim.Native.Nat.{◌-◌}
 use mathlib.Core.Path.{refl, sym, ◌∙◌}
 use Rattle.mmio_config.proofs.Loops.{passing-more, passing-last, passing-stop}
 use native.Mathlib.Omega.{arith}

@@ -1,7 +1,7 @@
 use Rattle.words.proofs.Actions.{worded, then, long}
 use Rattle.text.proofs.Numerals.{numeral-one, numeral-more, length-one, length_more}
 use native.Mathlib.Nat.{div-lt_self, mod-lt}
-use mathlib.Core.Path.{sym, ◌∙◌, subst}
+use mathlib.Core.Path.{sym, subst}
 use native.Mathlib.Omega.{arith}
 use Prim.Native.Nat.{ℕ, ◌<◌, ◌/◌}
 use Rattle.text.proofs.+put_number.Goals as goal

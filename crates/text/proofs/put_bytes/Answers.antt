@@ -1,7 +1,6 @@
 use Rattle.words.proofs.Actions.{still, then, worded, long}
 use Rattle.text.proofs.Pieces.{bytes-more}
 use mathlib.Core.Path.{refl, ◌∙◌}
-use Prim.Native.Nat.{◌-◌}
 use lib.Seq.{length-take-le, take_all}
 use native.Mathlib.Omega.{arith}
 use Rattle.text.proofs.put_bytes.Goals as goal

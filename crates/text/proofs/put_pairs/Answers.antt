@@ -2,7 +2,6 @@ use Rattle.words.proofs.Actions.{still, then, worded, long}
 use Rattle.text.specs.Numerals.{pairs}
 use Rattle.text.proofs.Pieces.{pairs-more}
 use mathlib.Core.Path.{refl, ap, ◌∙◌}
-use Prim.Native.Nat.{◌-◌}
 use lib.Seq.{take_all}
 use native.Mathlib.Omega.{arith}
 use Rattle.text.proofs.put_pairs.Goals as goal

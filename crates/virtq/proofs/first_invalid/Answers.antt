@@ -1,5 +1,4 @@
 use Rattle.virtq.proofs.Scans.{going-first, going_more, going-stop, going-last}
-use Prim.Native.Nat.{◌-◌}
 use mathlib.Core.Path.{sym, ◌∙◌}
 use native.Mathlib.Omega.{arith}
 use Rattle.virtq.proofs.first_invalid.Goals as goal
