@@ -13,7 +13,7 @@ use Rattle.history.specs.Log.{field_from}
 use Rattle.history.specs.Run.{run}
 use Rattle.history.proofs.Afresh as afresh
 use Rattle.trace.specs.Block.{block_at, sizes_at}
-use Rattle.trace.specs.Verdict.{verdict_of, Good}
+use Rattle.trace.specs.Verdict.{Good}
 use Rattle.trace.proofs.Judging.{good-accepted}
 use Rattle.play.specs.Log.{records_of}
 use Rattle.play.specs.declared.Show.{Show}

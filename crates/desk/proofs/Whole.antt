@@ -1,6 +1,6 @@
 -- Some records, or nothing where they may not run; and all of them, with the heading and the end.
 use mathlib.Core.Bool.{Bool, true, false, true≢false}
-use mathlib.Core.Path.{◌≡◌, refl, ap, ap₂, sym, subst, ◌∙◌}
+use mathlib.Core.Path.{◌≡◌, refl, ap, ap₂, sym, ◌∙◌}
 use mathlib.Core.List.{List, [], ◌++◌}
 use Prim.Native.Nat.{ℕ, ◌+◌, ◌*◌, ◌-◌, ◌≤◌, ◌<◌}
 use native.Mathlib.Omega.{arith}
@@ -24,12 +24,11 @@ use Rattle.listing.proofs.Rows.{roomed}
 use Rattle.trace.specs.Block.{block_at}
 use Rattle.trace.specs.Verdict.{count, counted, layout_of, verdict_of, Good}
 use Rattle.trace.proofs.Judging.{laid-few, accepted-good, good-accepted}
-use Rattle.play.specs.Log.{log_from, records_of}
+use Rattle.play.specs.Log.{log_from}
 use Rattle.play.specs.Text.{log_text, replay_text}
 use Rattle.play.specs.declared.Show.{Show}
 use Rattle.desk.specs.Desk.{room_before, Parted, may_play, Pieced, enough, Begun, Replayed}
 use Rattle.desk.specs.declared.Part.{Part}
-use Rattle.desk.specs.declared.Played.{Played}
 
 pub counted-good : (s : List ℕ) → Good s → counted s ≡ count s
 counted-good s g = rw g.layout

@@ -9,7 +9,7 @@ use Rattle.tape.specs.Play.{laid}
 use Rattle.mmio_state.specs.State.{with_hot}
 use Rattle.mmio_access.specs.Changes.{with_interrupts}
 use Rattle.mmio_v2.specs.Fresh.{device}
-use Rattle.mmio_v2.specs.Operation.{Read, Write, Raise}
+use Rattle.mmio_v2.specs.Operation.{Read, Write}
 use Rattle.mmio_v2.specs.Step.{Outcome, step, replied}
 use Rattle.mmio_v2.specs.declared.MmioV2Device.{MmioV2Device}
 use Rattle.mmio_fast.specs.Quick.{quick_read, quick_ready, quick_write, quick_raise}
@@ -25,12 +25,11 @@ module _ (d : MmioV2Device) where
   shown : (k o : ℕ) (y y' x : List ℕ) (v : ℕ) (t : Told)
       → (step (length x) d.state (Read k o (length y)) ≡ word_only d.state v) × (length y ≡ 4)
       → (t ≡ tell 0 4 0) × (y' ≡ write_le 4 y v) → Reads d k o y y' x x t
-  shown k o y y' x v t z p =
-      (
-        p.0 ∙ ap told_of (sym z.0),
-        p.1 ∙ given y d.state v z.1 ∙ ap (replied y) (sym z.0),
-        ap (λ (u : Outcome). laid x u.actions) (sym z.0),
-      )
+  shown k o y y' x v t z p = (
+    p.0 ∙ ap told_of (sym z.0),
+    p.1 ∙ given y d.state v z.1 ∙ ap (replied y) (sym z.0),
+    ap (λ (u : Outcome). laid x u.actions) (sym z.0),
+  )
 
   pub polled-read : (k o : ℕ) (y y' x : List ℕ) (q : Quick) (t : Told)
       → q ≡ quick_read d.state.hot o (length y) (length x) → q.done ≡ true
@@ -53,7 +52,7 @@ module _ (d : MmioV2Device) where
       write_same d.state k o bs (length x) (sym (ap (λ (u : Quick). u.done) e) ∙ f)
       in (
         ap (λ (u : Quick). device (with_hot d.state (with_interrupts d.state.hot u.value))) e
-        ∙ ap (λ (u : Outcome). device u.state) (sym z),
+            ∙ ap (λ (u : Outcome). device u.state) (sym z),
         ap told_of (sym z),
         ap (λ (u : Outcome). laid x u.actions) (sym z),
       )
@@ -63,7 +62,7 @@ module _ (d : MmioV2Device) where
   raised b x r e =
       let z = raise-same d.state b (length x) in (
         ap (λ (u : Raised). device (with_hot d.state (with_interrupts d.state.hot u.bits))) e
-        ∙ ap (λ (u : Outcome). device u.state) (sym z.0),
+            ∙ ap (λ (u : Outcome). device u.state) (sym z.0),
         ap (λ (u : Raised). u.told) e ∙ z.1,
         ap (λ (u : Outcome). laid x u.actions) (sym z.0),
       )

@@ -1,5 +1,4 @@
 use mathlib.Core.Path.{sym, ◌∙◌}
-use Prim.Native.Nat.{◌-◌}
 use lib.ListN.{length}
 use Rattle.text.proofs.Pieces.{room-means}
 use Rattle.desk.proofs.Going.{going-first, going_more, going-last, goes-on}

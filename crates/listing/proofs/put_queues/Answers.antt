@@ -1,4 +1,3 @@
-use Prim.Native.Nat.{◌-◌}
 use Rattle.listing.proofs.Rows.{rising-first, rising-room, rising-more, rising-last}
 use Rattle.listing.proofs.put_queues.Goals as goal
 
