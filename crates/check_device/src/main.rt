@@ -9,6 +9,7 @@
 //! - `lend` words: how many action words each operation gets from here on.
 //! - A line with a capital sets a part of the configuration. Any other is only printed. Of a line with a bar, what is behind
 //!   the bar is the operation, and only what is before it is printed.
+#![tactic(auto)]
 
 ghost use Rattle.std.specs.Prelude.{◌≤◌, ◌≡◌, length};
 
@@ -16,6 +17,8 @@ use mmio_config::{Configuration, Region};
 use mmio_tables::{Kind, Standing};
 use mmio_v2::{Answer, MmioV2Device};
 use show::{dec, hex, say};
+use std::io;
+use std::io::Read;
 use virtq::QueueIndex;
 
 // ---- a line of the script
@@ -234,12 +237,13 @@ fn offer(d: MmioV2Device, l: Line, bytes: &mut [u8], words: &mut [u64]) -> Answe
     ask(d, l, k, &mut bytes[..m], &mut words[..n])
 }
 
-fn operate(d: MmioV2Device, l: Line) -> MmioV2Device {
+fn operate(rt: &impl Print, d: MmioV2Device, l: Line) -> io::Result<MmioV2Device> {
     let mut words = [show::UNTOUCHED; 320];
     let mut bytes = filled(l);
     let a = offer(d, l, &mut bytes, &mut words);
     let u = a.device;
     show::answer(
+        rt,
         u.driver_status(),
         a.refusal,
         &filled(l),
@@ -247,91 +251,124 @@ fn operate(d: MmioV2Device, l: Line) -> MmioV2Device {
         a.reply,
         &words,
         a.count,
-    );
-    u
+    )?;
+    Ok(u)
 }
 
 // ---- a question
 
-fn standing(e: Standing) {
+fn standing(rt: &impl Print, e: Standing) -> io::Result<()> {
     if e.stands {
-        show::four(e.entry.queue, e.entry.address, e.entry.width, e.entry.value);
-        return;
+        return show::four(
+            rt,
+            e.entry.queue,
+            e.entry.address,
+            e.entry.width,
+            e.entry.value,
+        );
     }
-    say(b" none");
+    say(rt, b" none")?;
     if e.refusal != 0 {
-        dec(e.refusal as u64);
-        show::four(e.entry.queue, e.entry.address, e.entry.width, e.entry.value);
+        dec(rt, e.refusal as u64)?;
+        show::four(
+            rt,
+            e.entry.queue,
+            e.entry.address,
+            e.entry.width,
+            e.entry.value,
+        )?;
     }
+    Ok(())
 }
 
-fn held(d: MmioV2Device, q: u32) {
-    say(b" doorbell");
-    standing(d.held_entry(QueueIndex(q), Kind::Doorbell));
-    say(b", notify");
-    standing(d.held_entry(QueueIndex(q), Kind::Notify));
+fn held(rt: &impl Print, d: MmioV2Device, q: u32) -> io::Result<()> {
+    say(rt, b" doorbell")?;
+    standing(rt, d.held_entry(QueueIndex(q), Kind::Doorbell))?;
+    say(rt, b", notify")?;
+    standing(rt, d.held_entry(QueueIndex(q), Kind::Notify))
 }
 
-fn question(d: MmioV2Device, l: Line) {
+fn question(rt: &impl Print, d: MmioV2Device, l: Line) -> io::Result<()> {
     let r = d.field(QueueIndex(low32(l.a)), virtq::field_numbered(low32(l.b)));
-    dec(r.refusal as u64);
-    hex(r.value as u64);
+    dec(rt, r.refusal as u64)?;
+    hex(rt, r.value as u64)
 }
 
-fn made(c: Configuration) -> MmioV2Device {
+fn made(rt: &impl Print, c: Configuration) -> io::Result<MmioV2Device> {
     let m = MmioV2Device::new(c);
-    dec(m.refusal as u64);
-    m.device
+    dec(rt, m.refusal as u64)?;
+    Ok(m.device)
 }
 
-fn perform(d: MmioV2Device, c: Configuration, l: Line) -> MmioV2Device {
+fn perform(
+    rt: &impl Print,
+    d: MmioV2Device,
+    c: Configuration,
+    l: Line,
+) -> io::Result<MmioV2Device> {
     let verb = l.verb;
     match verb {
-        b'w' | b'r' | b'i' => operate(d, l),
-        b'n' => made(c),
+        b'w' | b'r' | b'i' => operate(rt, d, l),
+        b'n' => made(rt, c),
         b'h' => {
-            held(d, low32(l.a));
-            d
+            held(rt, d, low32(l.a))?;
+            Ok(d)
         }
         b'a' => {
-            question(d, l);
-            d
+            question(rt, d, l)?;
+            Ok(d)
         }
-        _ => d,
+        _ => Ok(d),
     }
 }
 
 // ---- the script
 
-fn echo(c: u8, hidden: bool) {
+fn echo(rt: &impl Print, c: u8, hidden: bool) -> io::Result<()> {
     if hidden {
-        return;
+        return Ok(());
     }
     let text = [c];
-    say(&text);
+    say(rt, &text)
 }
 
-fn run(text: &[u8]) {
+fn run(rt: &impl Print, text: &[u8]) -> io::Result<()> {
     let mut c = plain();
     let mut d = MmioV2Device::new(c).device;
     let mut l = empty(320);
-    let mut i = 0usize;
-    while i < text.len() {
-        let b = text[i];
+    for b in text {
+        let b = *b;
         if b == b'\n' {
-            d = perform(d, c, l);
+            d = perform(rt, d, c, l)?;
             c = configure(c, l);
             l = next(l);
         } else {
             l = feed(l, b);
         }
-        echo(b, l.hidden);
-        i += 1;
+        echo(rt, b, l.hidden)?;
     }
+    Ok(())
 }
 
-fn main() {
-    let mut space = io::large_buffer();
-    let n = io::read_full(0, &mut space);
-    run(&space[..n]);
+// The most that is read of a script.
+const SCRIPT_ROOM: usize = 65536;
+
+// Reads until the space is full, the input ends or a read fails, and answers how many bytes stand at its start.
+fn read_full(from: &mut impl Read, space: &mut [u8]) -> usize
+    ensures { result ≤ length space.new }
+{
+    let mut done = 0;
+    while done < space.len() {
+        match from.read(&mut space[done..]) {
+            Ok(n) if 0 < n => done += n,
+            _ => break,
+        }
+    }
+    done
+}
+
+fn main(rt: HostRuntime) -> io::Result<()> {
+    let mut space = [0u8; SCRIPT_ROOM];
+    let n = read_full(&mut rt.stdin(), &mut space);
+    run(&rt, &space[..n])
 }
