@@ -1,4 +1,4 @@
-/* The proved virtio MMIO device, for C. Link libdewbracket.a, which `rt staticlib dewbracket` writes.
+/* The proved virtio MMIO device, for C. Link libdewbracket.a, which `link/archive` writes to target/staticlib.
  *
  * A device is plain data: it may be copied, kept and put back. Every function here is proved to answer on every input;
  * what C must keep to is what its types say: pointers that are valid for their lengths and overlap nothing else, and a

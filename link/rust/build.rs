@@ -1,4 +1,4 @@
-//! Links libdewbracket.a: from the folder that DEWBRACKET_LIB names, else from where `rt staticlib dewbracket` writes it.
+//! Links libdewbracket.a: from the folder that DEWBRACKET_LIB names, else from where `link/archive` writes it.
 
 use std::{env, path::PathBuf};
 

@@ -1,4 +1,4 @@
-//! The device for C and Rust to link. `new` and the questions go by value. An access and a raise go by value, or behind a lent
+//! The device for C and Rust to link, by the exports of `dewbracket_c`. `new` and the questions go by value. An access and a raise go by value, or behind a lent
 //! device: then with the same promises, and by the short way where that is enough. The polls are that short way alone.
 
 #![tactic(auto)]
@@ -22,8 +22,7 @@ use tape::Entry;
 use virtq::QueueIndex;
 
 /// A fresh device, or the number of its refusal, 1 to 6.
-#[unsafe(no_mangle)]
-pub extern "C" fn dewbracket_new(c: Configuration) -> MadeDevice
+pub fn dewbracket_new(c: Configuration) -> MadeDevice
     ensures { result ≡ made_device c }
 {
     MmioV2Device::new(c)
@@ -41,16 +40,14 @@ fn kind_numbered(n: u32) -> Kind
 }
 
 /// The status register.
-#[unsafe(no_mangle)]
-pub extern "C" fn dewbracket_driver_status(d: MmioV2Device) -> u32
+pub fn dewbracket_driver_status(d: MmioV2Device) -> u32
     ensures { result ≡ d.state.hot.status }
 {
     d.driver_status()
 }
 
 /// What a field of a queue holds, the fields numbered from 0 to 7; or refusal 13.
-#[unsafe(no_mangle)]
-pub extern "C" fn dewbracket_field(d: MmioV2Device, queue: u32, field: u32) -> Reply
+pub fn dewbracket_field(d: MmioV2Device, queue: u32, field: u32) -> Reply
     ensures { result ≡ asked_by_number d.state queue field }
 {
     if field < 8 {
@@ -63,8 +60,7 @@ pub extern "C" fn dewbracket_field(d: MmioV2Device, queue: u32, field: u32) -> R
 }
 
 /// Whether a registration of a queue stands, 0 its doorbell and 1 its notify word, and with what; or refusal 13.
-#[unsafe(no_mangle)]
-pub extern "C" fn dewbracket_held_entry(d: MmioV2Device, queue: u32, kind: u32) -> Standing
+pub fn dewbracket_held_entry(d: MmioV2Device, queue: u32, kind: u32) -> Standing
     ensures { result ≡ held_by_number d.state queue kind }
 {
     if kind < 2 {
@@ -86,8 +82,7 @@ pub extern "C" fn dewbracket_held_entry(d: MmioV2Device, queue: u32, kind: u32) 
 // ---- by value: the device's own methods
 
 /// `read`.
-#[unsafe(no_mangle)]
-pub extern "C" fn dewbracket_pass_read(
+pub fn dewbracket_pass_read(
     d: MmioV2Device,
     k: u32,
     offset: u64,
@@ -102,8 +97,7 @@ pub extern "C" fn dewbracket_pass_read(
 }
 
 /// `write`.
-#[unsafe(no_mangle)]
-pub extern "C" fn dewbracket_pass_write(
+pub fn dewbracket_pass_write(
     d: MmioV2Device,
     k: u32,
     offset: u64,
@@ -117,8 +111,7 @@ pub extern "C" fn dewbracket_pass_write(
 }
 
 /// `raise`.
-#[unsafe(no_mangle)]
-pub extern "C" fn dewbracket_pass_raise(d: MmioV2Device, bits: u32, actions: &mut [u64]) -> Answer
+pub fn dewbracket_pass_raise(d: MmioV2Device, bits: u32, actions: &mut [u64]) -> Answer
     ensures value { result ≡ answer_of (step (length actions.old) d.state (Raise bits)) }
     ensures actions_after { actions.new ≡ laid actions.old (step (length actions.old) d.state (Raise bits)).actions }
 {
@@ -128,8 +121,7 @@ pub extern "C" fn dewbracket_pass_raise(d: MmioV2Device, bits: u32, actions: &mu
 // ---- behind a lent device
 
 /// A read of as many bytes as are lent for the reply, as `read`.
-#[unsafe(no_mangle)]
-pub extern "C" fn dewbracket_read(
+pub fn dewbracket_read(
     dev: &MmioV2Device,
     k: u32,
     offset: u64,
@@ -155,8 +147,7 @@ pub extern "C" fn dewbracket_read(
 }
 
 /// A write of these bytes, as `write`.
-#[unsafe(no_mangle)]
-pub extern "C" fn dewbracket_write(
+pub fn dewbracket_write(
     dev: &mut MmioV2Device,
     k: u32,
     offset: u64,
@@ -180,8 +171,7 @@ pub extern "C" fn dewbracket_write(
 }
 
 /// The given interrupt bits are set, as `raise`.
-#[unsafe(no_mangle)]
-pub extern "C" fn dewbracket_raise(dev: &mut MmioV2Device, bits: u32, actions: &mut [u64]) -> Told
+pub fn dewbracket_raise(dev: &mut MmioV2Device, bits: u32, actions: &mut [u64]) -> Told
     ensures { Raises dev.old dev.new bits actions.old actions.new result }
 {
     let raised = mmio_fast::quick_raise(dev.state.hot, bits, actions.len());
@@ -193,13 +183,7 @@ pub extern "C" fn dewbracket_raise(dev: &mut MmioV2Device, bits: u32, actions: &
 
 /// A read of 060 or 070, with so many reply bytes and action words lent. Where it is not done, its caller goes on with
 /// `dewbracket_read`.
-#[unsafe(no_mangle)]
-pub extern "C" fn dewbracket_poll_read(
-    dev: &MmioV2Device,
-    offset: u64,
-    len: usize,
-    room: usize,
-) -> Quick
+pub fn dewbracket_poll_read(dev: &MmioV2Device, offset: u64, len: usize, room: usize) -> Quick
     ensures { PollsRead dev.now offset len room result }
 {
     mmio_fast::quick_read(dev.state.hot, offset, len, room)
@@ -207,13 +191,7 @@ pub extern "C" fn dewbracket_poll_read(
 
 /// A write of 050 or 064, with so many action words lent. Where it is not done, the device is as it was, and its caller goes
 /// on with `dewbracket_write`.
-#[unsafe(no_mangle)]
-pub extern "C" fn dewbracket_poll_write(
-    dev: &mut MmioV2Device,
-    offset: u64,
-    bytes: &[u8],
-    room: usize,
-) -> bool
+pub fn dewbracket_poll_write(dev: &mut MmioV2Device, offset: u64, bytes: &[u8], room: usize) -> bool
     ensures { PollsWrite dev.old dev.new offset bytes.now room result }
 {
     let quick = mmio_fast::quick_write(dev.state.hot, offset, bytes, room);
@@ -224,8 +202,7 @@ pub extern "C" fn dewbracket_poll_write(
 // ---- a whole trace
 
 /// The text of a trace at the front of the buffer, as `desk::replay`. Nothing is written where there is too little room.
-#[unsafe(no_mangle)]
-pub extern "C" fn dewbracket_replay(trace: &[u8], show: Show, out: &mut [u8]) -> Played
+pub fn dewbracket_replay(trace: &[u8], show: Show, out: &mut [u8]) -> Played
     ensures { Replayed show trace.now out.old out.new result }
 {
     desk::replay(trace, show, out)

@@ -78,7 +78,7 @@ fn workspace() -> PathBuf {
 
 fn compare(options: &[&str]) -> Outcome {
     let mut plan = compare::Plan {
-        port: workspace().join("../target/bin/replay"),
+        port: workspace().join("../crates/replay/out/replay"),
         traces: 50_000,
         operations: 10_000_000,
         seed: 1,
