@@ -5,12 +5,12 @@ use Prim.Native.Nat.{ℕ, ◌<◌, ◌^◌}
 use mathlib.Core.List.{[], ◌∷◌, List}
 use lib.ListN.{length}
 use seplogic.Ra.Ura.{Ura}
-use seplogic.Ra.TreeShare.{full_share}
-use mir.Syntax.{Name, Fn, Ty, local, value_local, named, mut, w32, w64, ty_int, ty_ref, place, deref, field, copy, rv_opd, assign, call, seq, return}
+use base.Fraction.{full_share}
+use mir.Syntax.{Callee, Fn, Ty, local, value_local, named, mut, w32, w64, ty_int, ty_ref, place, deref, field, copy, rv_opd, assign, call, seq, return}
 use mir.Val.{Val, Vals, vnil, vcons, vstruct, vint, vptr}
 use mir.Raw.{raw as raw_ty}
 use base.Logic.{SProp, ent, emp, via, fst∗, snd∗, ex_e, id⊢}
-use base.Fml.{GName, Lft, Share, Fml, ftrue, flft, fobs, fres, fbor, fat}
+use base.Fml.{GName, Lft, Share, Fml, ftrue, fsep, flft, fobs, fres, fbor, fat}
 use prog.Wp.{Calls, Loops, WpFn, Tables, Closed}
 use prog.Model.{Model}
 use prog.Routine.{Routine, Env}
@@ -20,7 +20,8 @@ use contract.Running.{Running, tables, tables_of}
 use types.Kit.{‵, raw, ◌⊛◌, ⋆, some, later, ◌$◌, ◌∵◌, !, qed, by, move, keep, drop, use0, use1, split, join, pick, rewrite, fsplit, fsplit3, fjoin, fjoin3, feq_i, suffices, frame, await, done}
 use types.Run.{look, init, forget, stop, hop, fld, from, load, of_opd, and_then, no_more, land, assigns, returns, enter, alloc1, alloc0, params1, pass1, pass0, free1, free0}
 use types.Part.{whole, sub, look_in, store_in}
-use types.SemTy.{Body}
+use types.SemTy.{Body, Arr}
+use types.Hole.{Holey}
 use sound.WpLaws.{FmC, fm_of, WpFn-mono}
 use denote.RattleType.{RattleType, owns}
 use denote.Laws.{Is, shows}
@@ -79,11 +80,13 @@ module _ (L : Lent) (L' : shape.Laws L) where
   stayed = (stay_ref (0 ∷ []) tt (plain (λ _. D)), (stay_none (λ _. u32) yes, (gave_slice (1 ∷ []) tt (plain (λ _. u64)), tt)))
 
   -- the code, with the key of what it calls
-  abbrev pub code : Name → Fn
+  abbrev pub code : Callee → Fn
   code j =
       record {
         lifetimes = 2;
         outlives = [];
+        ty_params = [];
+        givens = 0;
         params = 3;
         locals = local K'.mir value_local ∷ local (ty_ref (named 0) mut (pointee L.written)) value_local ∷ local (ty_int w32) value_local ∷ local (slice_ty (ty_ref (named 1) mut (ty_int w64))) value_local ∷ local Z'.mir value_local ∷ local O'.mir value_local ∷ local (ty_int w64) value_local ∷ [];
         body =
@@ -144,6 +147,10 @@ module _ (L : Lent) (L' : shape.Laws L) where
       abbrev Acts : Fml
       Acts = (MutSlice (named 1) κ'' u64).own_val x (xv ∷ [])
 
+      -- the words given up: what says their last values, and the borrow, closed
+      abbrev Gave : Fml
+      Gave = fsep (finally u64 x.ghost_name x.now) (fbor κ'' (Body (Arr (Holey (mem u64)) (length x.now)) x.ref_ptr.0 x.ref_ptr.1 x.ghost_name))
+
       abbrev to : Quicks.Ghost
       to = ((tt, tt, tt, (L.hot h, (m, (length x.now, tt))), (hots (L.hot h), (vint w32 m ∷ [], (vint w64 (length x.now) ∷ [], tt)))), tt)
 
@@ -153,15 +160,15 @@ module _ (L : Lent) (L' : shape.Laws L) where
           owned ! O.the_row (Is O.the_row) (LL.makes O.the_type O'.the_plain 𝓛) (L.hot h) _ was $ fjoin ! $ nothing ! $ join ! $ frame ! $ done !
 
       -- a slice that is still owned, given up
-      gives_up : ent 𝓤 (sem 𝓛 Acts) (sem 𝓛 (finally u64 x.ghost_name x.now))
+      gives_up : ent 𝓤 (sem 𝓛 Acts) (sem 𝓛 Gave)
       gives_up =
           qed 𝓛 (‵ Acts ∷ []) ∵ fsplit ! $ move ! (1 ∷ []) $ fsplit ! $ use1 𝓛 (‵ (fres x.ghost_name ((coded_holeys u64).code (heres u64 x.now)))) (𝓛.names.obs-res x.ghost_name ((coded_holeys u64).code (heres u64 x.now))) $
-          use1 𝓛 (‵ (finally u64 x.ghost_name x.now)) (res-finally 𝓛 (named 1) κ'' u64 x.ghost_name x.now) $ keep ! (0 ∷ []) $ done !
+          use1 𝓛 (‵ (finally u64 x.ghost_name x.now)) (res-finally 𝓛 (named 1) κ'' u64 x.ghost_name x.now) $ keep ! (0 ∷ 1 ∷ []) $ fjoin ! $ done !
 
       exits : m < 2 ^ 32 → (d : L.Denot) (t : Told) → Is K.the_row t (LL.vals K.the_type K'.the_laws t) → (d ≡ gd h m (length x.now)) × (t ≡ gt h m (length x.now)) × (x.now ≡ ws h m x.now)
-          → ent 𝓤 (⋆ 𝓛 (‵ (fobs γ (D.coded.code d)) ∷ ‵ (fbor κ (Body (mem D) b o γ)) ∷ ‵ (flft κ q) ∷ (‵ (flft κ'' q'') ⊛ ‵ ftrue) ∷ ‵ (finally u64 x.ghost_name x.now) ∷ [])) (Post (LL.val K.the_type K'.the_laws t))
+          → ent 𝓤 (⋆ 𝓛 (‵ (fobs γ (D.coded.code d)) ∷ ‵ (fbor κ (Body (mem D) b o γ)) ∷ ‵ (flft κ q) ∷ (‵ (flft κ'' q'') ⊛ ‵ ftrue) ∷ ‵ Gave ∷ [])) (Post (LL.val K.the_type K'.the_laws t))
       exits m-fits d t t-is e =
-          qed 𝓛 (‵ (fobs γ (D.coded.code d)) ∷ ‵ (fbor κ (Body (mem D) b o γ)) ∷ ‵ (flft κ q) ∷ (‵ (flft κ'' q'') ⊛ ‵ ftrue) ∷ ‵ (finally u64 x.ghost_name x.now) ∷ []) ∵
+          qed 𝓛 (‵ (fobs γ (D.coded.code d)) ∷ ‵ (fbor κ (Body (mem D) b o γ)) ∷ ‵ (flft κ q) ∷ (‵ (flft κ'' q'') ⊛ ‵ ftrue) ∷ ‵ Gave ∷ []) ∵
           suffices ! _ (ends_at 𝓛 lent stayed sets (((κ, (κ'', tt)), (q, (q'', tt)), tt, a, at), tt) (LL.val K.the_type K'.the_laws t) t (d, (tt, (x.now, tt))) (tt, (tt, (refl, tt)))) $
           says ! e $ move ! (2 ∷ 3 ∷ []) $ join ! $ frame ! $
           -- [obs; the borrow; the last words]
@@ -179,7 +186,7 @@ module _ (L : Lent) (L' : shape.Laws L) where
       says_so law r e =
           let z = law h m x.now in (ap (λ (u : Raised). L.bits h u.bits) e ∙ z.0, ap (λ (u : Raised). u.told) e ∙ z.1, z.2)
 
-      module _ (j : Name) (C : Calls 𝓤 H) (Λ : Loops 𝓤 H) (fm : FmC 𝓤 H 𝓛.laws C) (known : Triple 𝓤 (C j) Quicks) (law : Law gd gt ws gq) where
+      module _ (j : Callee) (C : Calls 𝓤 H) (Λ : Loops 𝓤 H) (fm : FmC 𝓤 H 𝓛.laws C) (known : Triple 𝓤 (C j) Quicks) (law : Law gd gt ws gq) where
         walk : m < 2 ^ 32 → Room u64 (length x.now) → ent 𝓤 (on_entry 𝓛 lent.signature (κ, (κ'', tt)) (q, (q'', tt)) a at) (WpFn 𝓤 H C Λ (code j) (vptr b o ∷ vint w32 m ∷ xv ∷ []) Post)
         walk m-fits room =
             qed 𝓛 ((‵ (flft κ q) ⊛ (‵ (flft κ'' q'') ⊛ ‵ ftrue)) ∷ ‵ (owns (MutRef (named 0) κ D ∷ u32 ∷ MutSlice (named 1) κ'' u64 ∷ []) a at) ∷ []) ∵ enter ! C Λ (code j) (vptr b o ∷ vint w32 m ∷ xv ∷ []) _ $
@@ -203,9 +210,9 @@ module _ (L : Lent) (L' : shape.Laws L) where
             owned ! D (Is D) (L'.makes 𝓛) (L.bits h r.bits) _ (L'.bits_is h r.bits (bits_fit r _ is) was) $ move ! (1 ∷ 0 ∷ 2 ∷ 3 ∷ 4 ∷ []) $ use1 𝓛 (‵ (fat full_share (raw_ty Dm) b o (val (L.bits h r.bits)))) (𝓛.laws.at_raw full_share Dm b o _) $ closes ! tt D (L.bits h r.bits) (vals (L.bits h r.bits)) b o $
             returns ! (look ! 17 refl) $ forget ! 5 refl $ forget ! 7 refl $ forget ! 9 refl $ forget ! 11 refl $ forget ! 13 refl $ forget ! 15 refl $ forget ! 17 refl $
             move ! (17 ∷ 18 ∷ []) $ free1 ! $ move ! (15 ∷ 16 ∷ []) $ free1 ! $ move ! (13 ∷ 14 ∷ []) $ free1 ! $ move ! (11 ∷ 12 ∷ []) $ free1 ! $ move ! (9 ∷ 10 ∷ []) $ free1 ! $ move ! (7 ∷ 8 ∷ []) $ free1 ! $ move ! (5 ∷ 6 ∷ []) $ free1 ! $ free0 ! $
-            move ! (3 ∷ []) $ use1 𝓛 (‵ (finally u64 x.ghost_name x.now)) gives_up $ nothing ! $ move ! (5 ∷ 0 ∷ []) $ join ! $ move ! (2 ∷ 3 ∷ 4 ∷ 0 ∷ 1 ∷ []) $ keep ! (0 ∷ 1 ∷ 2 ∷ 3 ∷ 4 ∷ []) $ by ! (exits m-fits (L.bits h r.bits) r.told (told_is r _ is) (says_so law r e)))))))))))))))
+            move ! (3 ∷ []) $ use1 𝓛 (‵ Gave) gives_up $ nothing ! $ move ! (5 ∷ 0 ∷ []) $ join ! $ move ! (2 ∷ 3 ∷ 4 ∷ 0 ∷ 1 ∷ []) $ keep ! (0 ∷ 1 ∷ 2 ∷ 3 ∷ 4 ∷ []) $ by ! (exits m-fits (L.bits h r.bits) r.told (told_is r _ is) (says_so law r e)))))))))))))))
 
-    pub meets : (j : Name) (𝓣 : Tables 𝓤 H) → Triple 𝓤 (𝓣.C j) Quicks → Law gd gt ws gq → Meets 𝓛 lent.signature (WpFn 𝓤 H 𝓣.C 𝓣.Λ (code j)) (closing 𝓛 lent sets)
+    pub meets : (j : Callee) (𝓣 : Tables 𝓤 H) → Triple 𝓤 (𝓣.C j) Quicks → Law gd gt ws gq → Meets 𝓛 lent.signature (WpFn 𝓤 H 𝓣.C 𝓣.Λ (code j)) (closing 𝓛 lent sets)
     meets j 𝓣 known law = walk_Meets 𝓛 lent stayed
         (Goes-ref 𝓛 2 0 tt (plain (λ _. D)), (Goes-none 𝓛 2 (λ _. u32) yes (λ κs x f. refl), (Goes-gave_slice 𝓛 2 1 tt (plain (λ _. u64)), tt))) sets
         (WpFn 𝓤 H 𝓣.C 𝓣.Λ (code j)) (WpFn-mono 𝓤 H 𝓛.laws 𝓣 (code j))
@@ -214,7 +221,7 @@ module _ (L : Lent) (L' : shape.Laws L) where
         (λ κs qs bounds a _ are. via 𝓤 _ (fst∗ 𝓤 _ (emp 𝓤)) (walk κs.0 κs.1.0 qs.0 qs.1.0 a.0.ref_ptr.0 a.0.ref_ptr.1 a.0.ghost_name a.0.now a.1.0 a.1.1.0 j 𝓣.C 𝓣.Λ (fm_of 𝓤 H 𝓛.laws 𝓣) known law are.1.0.1 are.1.1.0.0.1)))
 
   -- the export's theorem, from that of the function it calls
-  pub spec : (gd : After) (gt : Tells) (ws : Words) (gq : Quick-raise) → Law gd gt ws gq → (key j : Name) (env : Env) (rj : Routine) → env j ≡ rj
+  pub spec : (gd : After) (gt : Tells) (ws : Words) (gq : Quick-raise) → Law gd gt ws gq → (key j : Callee) (env : Env) (rj : Routine) → env j ≡ rj
       → {M : Type 1} {𝓤 : Ura M} (𝓛 : Logic 𝓤) (𝓜 : Model 𝓤 𝓛.H) (𝓡 : Running 𝓤 𝓛.H 𝓜)
       → Closed 𝓤 𝓛.H (tables 𝓤 𝓛.H 𝓜 𝓡 env).C (tables 𝓤 𝓛.H 𝓜 𝓡 env).Λ key (code j) → Triple 𝓤 (𝓡.run rj) (Quicks gd gt ws gq 𝓛)
       → Meets 𝓛 lent.signature (𝓡.run (env key)) (closing 𝓛 lent (sets gd gt ws gq 𝓛))
