@@ -88,13 +88,14 @@ module _ (L : Lent) (L' : shape.Laws L) where
         ty_params = [];
         givens = 0;
         params = 3;
-        locals = local K'.mir value_local ∷ local (ty_ref (named 0) mut (pointee L.written)) value_local ∷ local (ty_int w32) value_local ∷ local (slice_ty (ty_ref (named 1) mut (ty_int w64))) value_local ∷ local Z'.mir value_local ∷ local O'.mir value_local ∷ local (ty_int w64) value_local ∷ [];
+        locals = local K'.mir value_local ∷ local (ty_ref (named 0) mut (pointee L.written)) value_local ∷ local (ty_int w32) value_local ∷ local (slice_ty (ty_ref (named 1) mut (ty_int w64))) value_local ∷ local Z'.mir value_local ∷ local O'.mir value_local ∷ local (ty_int w64) value_local ∷ local (ty_int w32) value_local ∷ [];
         body =
             seq (assign (place 5 []) (rv_opd (copy (place 1 (deref Dm ∷ field 0 ∷ field 0 ∷ []))))) (
             seq (assign (place 6 []) (rv_opd (copy (place 3 (field 1 ∷ []))))) (
             seq (call j (copy (place 5 []) ∷ copy (place 2 []) ∷ copy (place 6 []) ∷ []) (place 4 [])) (
-            seq (assign (place 1 (deref Dm ∷ field 0 ∷ field 0 ∷ field 1 ∷ [])) (rv_opd (copy (place 4 (field 0 ∷ []))))) (
-            seq (assign (place 0 []) (rv_opd (copy (place 4 (field 1 ∷ []))))) return))));
+            seq (assign (place 7 []) (rv_opd (copy (place 4 (field 0 ∷ []))))) (
+            seq (assign (place 1 (deref Dm ∷ field 0 ∷ field 0 ∷ field 1 ∷ [])) (rv_opd (copy (place 7 [])))) (
+            seq (assign (place 0 []) (rv_opd (copy (place 4 (field 1 ∷ []))))) return)))));
       }
 
   abbrev pub Quick-raise : Type 0
@@ -190,27 +191,28 @@ module _ (L : Lent) (L' : shape.Laws L) where
         walk : m < 2 ^ 32 → Room u64 (length x.now) → ent 𝓤 (on_entry 𝓛 lent.signature (κ, (κ'', tt)) (q, (q'', tt)) a at) (WpFn 𝓤 H C Λ (code j) (vptr b o ∷ vint w32 m ∷ xv ∷ []) Post)
         walk m-fits room =
             qed 𝓛 ((‵ (flft κ q) ⊛ (‵ (flft κ'' q'') ⊛ ‵ ftrue)) ∷ ‵ (owns (MutRef (named 0) κ D ∷ u32 ∷ MutSlice (named 1) κ'' u64 ∷ []) a at) ∷ []) ∵ enter ! C Λ (code j) (vptr b o ∷ vint w32 m ∷ xv ∷ []) _ $
-            alloc1 ! (λ l₀. alloc1 ! (λ l₁. alloc1 ! (λ l₂. alloc1 ! (λ l₃. alloc1 ! (λ l₄. alloc1 ! (λ l₅. alloc1 ! (λ l₆. alloc0 ! $ params1 ! $
-            pass1 ! (init ! 10 refl (tt, tt)) $ pass1 ! (init ! 8 refl (tt, record { fits = m-fits })) $ pass1 ! (init ! 6 refl (tt, (tt, (record { fits = room.0 }, tt)))) $ pass0 ! $
-            move ! (14 ∷ 15 ∷ []) $ split ! $ move ! (1 ∷ []) $ split ! $ move ! (1 ∷ []) $ drop ! $ move ! (2 ∷ []) $ fsplit ! $ move ! (1 ∷ []) $ fsplit ! $ drop ! $ fsplit ! $ move ! (1 ∷ []) $ drop ! $
+            alloc1 ! (λ l₀. alloc1 ! (λ l₁. alloc1 ! (λ l₂. alloc1 ! (λ l₃. alloc1 ! (λ l₄. alloc1 ! (λ l₅. alloc1 ! (λ l₆. alloc1 ! (λ l₇. alloc0 ! $ params1 ! $
+            pass1 ! (init ! 12 refl (tt, tt)) $ pass1 ! (init ! 10 refl (tt, record { fits = m-fits })) $ pass1 ! (init ! 8 refl (tt, (tt, (record { fits = room.0 }, tt)))) $ pass0 ! $
+            move ! (16 ∷ 17 ∷ []) $ split ! $ move ! (1 ∷ []) $ split ! $ move ! (1 ∷ []) $ drop ! $ move ! (2 ∷ []) $ fsplit ! $ move ! (1 ∷ []) $ fsplit ! $ drop ! $ fsplit ! $ move ! (1 ∷ []) $ drop ! $
             move ! (1 ∷ []) $ fsplit3 ! $ drop ! $ move ! (0 ∷ 1 ∷ 4 ∷ 2 ∷ 3 ∷ []) $ opens ! tt D {h = h} b o (λ vs. spelt ! D (Is D) (shows 𝓛 D) vals L'.tells full_share h vs b o $
             move ! (1 ∷ []) $ peeks ! D (Is D) (shows 𝓛 D) h (vals h) (λ was. drop ! $ use1 𝓛 (‵ (fat full_share Dm b o (val h))) (𝓛.laws.raw_at full_share Dm b o _) $
             -- [cell; open; obs; auth; actions; κ'']
-            assigns ! (of_opd ! (load ! (from ! (hop ! (look ! 16 refl) (fld ! refl (fld ! refl (stop !))))) (look_in ! 0 (sub ! 0 refl (sub ! 0 refl (whole !)))))) (from ! (stop !)) (init ! 8 refl ((LL.lawful O.the_type O'.the_laws 𝓛).typed (L.hot h) _ (L'.hot-is h was)).0) $
-            assigns ! (of_opd ! (load ! (from ! (fld ! refl (stop !))) (look_in ! 12 (sub ! 1 refl (whole !))))) (from ! (stop !)) (init ! 6 refl (tt, record { fits = room.0 })) $
-            use0 𝓛 (raw (Quicks.pre to)) (asks m-fits room.0 (L'.hot-is h was)) $ calls_at ! fm Quicks known to (and_then ! (load ! (from ! (stop !)) (look ! 9 refl)) (and_then ! (load ! (from ! (stop !)) (look ! 15 refl)) (and_then ! (load ! (from ! (stop !)) (look ! 7 refl)) (no_more !)))) (λ w.
+            assigns ! (of_opd ! (load ! (from ! (hop ! (look ! 18 refl) (fld ! refl (fld ! refl (stop !))))) (look_in ! 0 (sub ! 0 refl (sub ! 0 refl (whole !)))))) (from ! (stop !)) (init ! 10 refl ((LL.lawful O.the_type O'.the_laws 𝓛).typed (L.hot h) _ (L'.hot-is h was)).0) $
+            assigns ! (of_opd ! (load ! (from ! (fld ! refl (stop !))) (look_in ! 14 (sub ! 1 refl (whole !))))) (from ! (stop !)) (init ! 8 refl (tt, record { fits = room.0 })) $
+            use0 𝓛 (raw (Quicks.pre to)) (asks m-fits room.0 (L'.hot-is h was)) $ calls_at ! fm Quicks known to (and_then ! (load ! (from ! (stop !)) (look ! 11 refl)) (and_then ! (load ! (from ! (stop !)) (look ! 17 refl)) (and_then ! (load ! (from ! (stop !)) (look ! 9 refl)) (no_more !)))) (λ w.
             use1 𝓛 (later (some (λ (r : Raised). (‵ ftrue ⊛ ‵ ((Z.the_row).own_val r (w ∷ []))) ⊛ raw (ensured 𝓛 short.ended quicks tt (L.hot h, (m, (length x.now, tt))) tt r)))) (id⊢ 𝓤 _) $ await ! tt $ pick ! (λ r.
             split ! $ move ! (1 ∷ []) $ use1 𝓛 (raw (fact 𝓤 (r ≡ gq (L.hot h) m (length x.now)))) (ex_e 𝓤 _ (λ zs. snd∗ 𝓤 (sem 𝓛 (lasts short.ended tt (L.hot h, (m, (length x.now, tt))) zs)) (fact 𝓤 (r ≡ gq (L.hot h) m (length x.now))))) $ heard ! (r ≡ gq (L.hot h) m (length x.now)) (λ e.
             split ! $ drop ! $ peeks ! Z.the_row (Is Z.the_row) (shows 𝓛 Z.the_row) r (w ∷ []) (λ is. drop ! $
             -- [cell; open; obs; auth; actions; κ'']
-            land ! (from ! (stop !)) (init ! 10 refl ((LL.lawful Z.the_type Z'.the_laws 𝓛).typed r _ is).0) $ rewrite ! 10 (λ (u : Val). ‵ (fat full_share Z'.mir l₄ 0 u)) (ap only (LL.tells Z.the_type Z'.the_laws r _ is)) refl $
-            assigns ! (of_opd ! (load ! (from ! (fld ! refl (stop !))) (look_in ! 10 (sub ! 0 refl (whole !))))) (from ! (hop ! (look ! 16 refl) (fld ! refl (fld ! refl (fld ! refl (stop !)))))) (store_in ! 0 (sub ! 1 refl (sub ! 0 refl (sub ! 0 refl (whole !)))) (tt, record { fits = bits_fit r _ is })) $
-            assigns ! (of_opd ! (load ! (from ! (fld ! refl (stop !))) (look_in ! 10 (sub ! 1 refl (whole !))))) (from ! (stop !)) (init ! 18 refl ((LL.lawful K.the_type K'.the_laws 𝓛).typed r.told _ (told_is r _ is)).0) $
+            land ! (from ! (stop !)) (init ! 12 refl ((LL.lawful Z.the_type Z'.the_laws 𝓛).typed r _ is).0) $ rewrite ! 12 (λ (u : Val). ‵ (fat full_share Z'.mir l₄ 0 u)) (ap only (LL.tells Z.the_type Z'.the_laws r _ is)) refl $
+            assigns ! (of_opd ! (load ! (from ! (fld ! refl (stop !))) (look_in ! 12 (sub ! 0 refl (whole !))))) (from ! (stop !)) (init ! 6 refl (tt, record { fits = bits_fit r _ is })) $
+            assigns ! (of_opd ! (load ! (from ! (stop !)) (look ! 6 refl))) (from ! (hop ! (look ! 18 refl) (fld ! refl (fld ! refl (fld ! refl (stop !)))))) (store_in ! 0 (sub ! 1 refl (sub ! 0 refl (sub ! 0 refl (whole !)))) (tt, record { fits = bits_fit r _ is })) $
+            assigns ! (of_opd ! (load ! (from ! (fld ! refl (stop !))) (look_in ! 12 (sub ! 1 refl (whole !))))) (from ! (stop !)) (init ! 20 refl ((LL.lawful K.the_type K'.the_laws 𝓛).typed r.told _ (told_is r _ is)).0) $
             rewrite ! 0 (λ (u : Hot). ‵ (fat full_share Dm b o (vstruct (vcons (vstruct (vcons (LL.val O.the_type O'.the_laws u) (shape.others L h))) vnil)))) (sym (L'.bits-hot h r.bits)) refl $ rewrite ! 0 (λ (u : Vals). ‵ (fat full_share Dm b o (vstruct (vcons (vstruct (vcons (LL.val O.the_type O'.the_laws (L.hot (L.bits h r.bits))) u)) vnil)))) (sym (L'.bits-others h r.bits)) refl $
             owned ! D (Is D) (L'.makes 𝓛) (L.bits h r.bits) _ (L'.bits_is h r.bits (bits_fit r _ is) was) $ move ! (1 ∷ 0 ∷ 2 ∷ 3 ∷ 4 ∷ []) $ use1 𝓛 (‵ (fat full_share (raw_ty Dm) b o (val (L.bits h r.bits)))) (𝓛.laws.at_raw full_share Dm b o _) $ closes ! tt D (L.bits h r.bits) (vals (L.bits h r.bits)) b o $
-            returns ! (look ! 17 refl) $ forget ! 5 refl $ forget ! 7 refl $ forget ! 9 refl $ forget ! 11 refl $ forget ! 13 refl $ forget ! 15 refl $ forget ! 17 refl $
-            move ! (17 ∷ 18 ∷ []) $ free1 ! $ move ! (15 ∷ 16 ∷ []) $ free1 ! $ move ! (13 ∷ 14 ∷ []) $ free1 ! $ move ! (11 ∷ 12 ∷ []) $ free1 ! $ move ! (9 ∷ 10 ∷ []) $ free1 ! $ move ! (7 ∷ 8 ∷ []) $ free1 ! $ move ! (5 ∷ 6 ∷ []) $ free1 ! $ free0 ! $
-            move ! (3 ∷ []) $ use1 𝓛 (‵ Gave) gives_up $ nothing ! $ move ! (5 ∷ 0 ∷ []) $ join ! $ move ! (2 ∷ 3 ∷ 4 ∷ 0 ∷ 1 ∷ []) $ keep ! (0 ∷ 1 ∷ 2 ∷ 3 ∷ 4 ∷ []) $ by ! (exits m-fits (L.bits h r.bits) r.told (told_is r _ is) (says_so law r e)))))))))))))))
+            returns ! (look ! 19 refl) $ forget ! 5 refl $ forget ! 7 refl $ forget ! 9 refl $ forget ! 11 refl $ forget ! 13 refl $ forget ! 15 refl $ forget ! 17 refl $ forget ! 19 refl $
+            move ! (19 ∷ 20 ∷ []) $ free1 ! $ move ! (17 ∷ 18 ∷ []) $ free1 ! $ move ! (15 ∷ 16 ∷ []) $ free1 ! $ move ! (13 ∷ 14 ∷ []) $ free1 ! $ move ! (11 ∷ 12 ∷ []) $ free1 ! $ move ! (9 ∷ 10 ∷ []) $ free1 ! $ move ! (7 ∷ 8 ∷ []) $ free1 ! $ move ! (5 ∷ 6 ∷ []) $ free1 ! $ free0 ! $
+            move ! (3 ∷ []) $ use1 𝓛 (‵ Gave) gives_up $ nothing ! $ move ! (5 ∷ 0 ∷ []) $ join ! $ move ! (2 ∷ 3 ∷ 4 ∷ 0 ∷ 1 ∷ []) $ keep ! (0 ∷ 1 ∷ 2 ∷ 3 ∷ 4 ∷ []) $ by ! (exits m-fits (L.bits h r.bits) r.told (told_is r _ is) (says_so law r e))))))))))))))))
 
     pub meets : (j : Callee) (𝓣 : Tables 𝓤 H) → Triple 𝓤 (𝓣.C j) Quicks → Law gd gt ws gq → Meets 𝓛 lent.signature (WpFn 𝓤 H 𝓣.C 𝓣.Λ (code j)) (closing 𝓛 lent sets)
     meets j 𝓣 known law = walk_Meets 𝓛 lent stayed
