@@ -7,7 +7,7 @@ use mathlib.Core.List.{[], ◌∷◌, List}
 use lib.ListN.{length}
 use seplogic.Ra.Ura.{Ura}
 use base.Fraction.{full_share}
-use mir.Syntax.{w32, Callee, Fn, Ty, ty_bool, local, value_local, named, mut, imm, w8, w64, ty_int, ty_ref, place, deref, field, copy, rv_opd, assign, call, seq, return}
+use mir.Syntax.{Callee, Fn, Ty, ty_bool, local, value_local, named, mut, imm, w8, w32, w64, ty_int, ty_ref, place, deref, field, copy, rv_opd, assign, call, seq, return}
 use mir.Val.{Val, Vals, vnil, vcons, vstruct, vint, vptr, vbool}
 use mir.Raw.{raw as raw_ty}
 use base.Logic.{SProp, ent, emp, via, fst∗, snd∗, ex_e, id⊢}

@@ -95,6 +95,7 @@ pub record Laws (L : Lent) : Type 2 where
   pub makes : {M : Type 1} {𝓤 : Ura M} (𝓛 : Logic 𝓤) → Makes 𝓛 (row L) (Is (row L))
   pub lawful : {M : Type 1} {𝓤 : Ura M} (𝓛 : Logic 𝓤) → Lawful 𝓛 (row L)
   pub copy : {M : Type 1} {𝓤 : Ura M} (𝓛 : Logic 𝓤) → Copy 𝓛 (row L)
+  -- a `&` to a device can be looked into: what such a reference holds is the row's `shr_at`
   pub opens : {M : Type 1} {𝓤 : Ura M} (𝓛 : Logic 𝓤) → Opens 𝓛 (row L)
   pub hot-is : (h : L.Denot) → Is (row L) h (vals L h) → Is O.the_row (L.hot h) (LL.vals O.the_type O'.the_laws (L.hot h))
   pub count_fits : (h : L.Denot) → Is (row L) h (vals L h) → (L.config h).count < 2 ^ 32
