@@ -8,12 +8,13 @@ use Prim.Native.Nat.{ℕ, ◌<◌, ◌^◌}
 use seplogic.Ra.Ura.{Ura}
 use mir.Syntax.{Sym, Ty, Tys, Written, tnil, tcons, ty_array, ty_struct}
 use mir.Val.{Val, Vals, WT, has_ty, vnil, vcons, vstruct}
-use base.Fml.{Fml}
+use base.Fml.{Fml, Lft}
 use base.Stored.{Coded}
 use types.Logic.{Logic}
 use denote.Exit.{Kept, Exit}
 use denote.RattleType.{RattleType}
 use denote.Laws.{Is, Tells, Makes, Lawful, Copy}
+use denote.Opens.{Opens}
 use denote.Array.{Array}
 use denote.Struct.Laws as LL
 use lib.Dec.{T}
@@ -39,9 +40,11 @@ pub record Lent : Type 2 where
   pub Denot : Type 0
   pub written : Written
   pub reaches : List (Written × List Ty)
-  pub own : Denot → List Val → Fml
+  pub lives : Lft
+  pub own_val : Denot → List Val → Fml
   pub exit : Kept → Exit Denot
   pub coded : Coded Denot
+  pub shr_at : Denot → ℕ → ℕ → Lft → Fml
   pub outer : Sym
   pub inner : Sym
   pub flags : Ty
@@ -79,9 +82,11 @@ row L =
       mir = lies L ∷ [];
       written = L.written;
       reaches = L.reaches;
-      own_val = L.own;
+      lives = L.lives;
+      own_val = L.own_val;
       exit = L.exit;
       coded = L.coded;
+      shr_at = L.shr_at;
     }
 
 -- what the walks lean on
@@ -90,6 +95,8 @@ pub record Laws (L : Lent) : Type 2 where
   pub makes : {M : Type 1} {𝓤 : Ura M} (𝓛 : Logic 𝓤) → Makes 𝓛 (row L) (Is (row L))
   pub lawful : {M : Type 1} {𝓤 : Ura M} (𝓛 : Logic 𝓤) → Lawful 𝓛 (row L)
   pub copy : {M : Type 1} {𝓤 : Ura M} (𝓛 : Logic 𝓤) → Copy 𝓛 (row L)
+  -- a `&` to a device can be looked into: what such a reference holds is the row's `shr_at`
+  pub opens : {M : Type 1} {𝓤 : Ura M} (𝓛 : Logic 𝓤) → Opens 𝓛 (row L)
   pub hot-is : (h : L.Denot) → Is (row L) h (vals L h) → Is O.the_row (L.hot h) (LL.vals O.the_type O'.the_laws (L.hot h))
   pub count_fits : (h : L.Denot) → Is (row L) h (vals L h) → (L.config h).count < 2 ^ 32
   pub queues-is : (h : L.Denot) → Is (row L) h (vals L h) → Is (Array U.the_row 16) (L.queues h) (L.queuev h ∷ [])
@@ -104,9 +111,11 @@ pub record Wrote (L : Lent) : Type 2 where
   pub Denot : Type 0
   pub written : Written
   pub reaches : List (Written × List Ty)
-  pub own : Denot → List Val → Fml
+  pub lives : Lft
+  pub own_val : Denot → List Val → Fml
   pub exit : Kept → Exit Denot
   pub coded : Coded Denot
+  pub shr_at : Denot → ℕ → ℕ → Lft → Fml
   pub name : Sym
   pub told : Denot → Told
   pub device : Denot → L.Denot
@@ -124,9 +133,11 @@ wrote-row L R =
       mir = wrote-mir L R ∷ [];
       written = R.written;
       reaches = R.reaches;
-      own_val = R.own;
+      lives = R.lives;
+      own_val = R.own_val;
       exit = R.exit;
       coded = R.coded;
+      shr_at = R.shr_at;
     }
 
 pub record Wrote-laws (L : Lent) (R : Wrote L) : Type 2 where

@@ -1,0 +1,15 @@
+-- `Walks.antt`'s walk, at this function's code.
+use contract.Running.{tables, tables_of}
+use denote.Triple.Spec.{triple_of}
+use denote.Triple.Table.{entered}
+use Rattle.reader.proofs.Walks.{new_meets}
+use Rattle.reader.specs.contracts.TraceReader.new.Key.{name as key}
+use Rattle.reader.specs.contracts.TraceReader.new as f
+use Rattle.reader.proofs.TraceReader.new.Statement as stated
+use Rattle.reader.proofs.TraceReader.new.Code as code
+
+pub new_spec : {M : Type 1} → stated.statement M
+unfolding tables_of
+new_spec 𝓤 𝓛 𝓜 𝓡 wired =
+    entered 𝓤 𝓛.H (triple_of 𝓛 f.signature (f.spec 𝓛 𝓜.mem 𝓡.returns)) (tables 𝓤 𝓛.H 𝓜 𝓡 𝓡.env).C (tables 𝓤 𝓛.H 𝓜 𝓡 𝓡.env).Λ key code.function (code.unfolded 𝓤 𝓛.H 𝓜 𝓡 wired)
+    (new_meets 𝓛 𝓜.mem 𝓡.returns (tables_of 𝓤 𝓛.H 𝓜 (tables 𝓤 𝓛.H 𝓜 𝓡 𝓡.env)))

@@ -1,0 +1,17 @@
+-- `Walks.antt`'s walk, at this function's code.
+use contract.Running.{tables, tables_of}
+use denote.Triple.Spec.{triple_of}
+use denote.Triple.Table.{entered}
+use Rattle.reader.proofs.Walks.{next-meets}
+use Rattle.trace.proofs.next_record.Met as step_thm
+use Rattle.reader.specs.contracts.TraceReader.next.Key.{name as key}
+use Rattle.reader.specs.contracts.TraceReader.next as f
+use Rattle.reader.proofs.TraceReader.next.Statement as stated
+use Rattle.reader.proofs.TraceReader.next.Code as code
+
+pub next_spec : {M : Type 1} → stated.statement M
+unfolding tables_of
+next_spec 𝓤 𝓛 𝓜 𝓡 wired =
+    entered 𝓤 𝓛.H (triple_of 𝓛 f.signature (f.spec 𝓛 𝓜.mem 𝓡.returns)) (tables 𝓤 𝓛.H 𝓜 𝓡 𝓡.env).C (tables 𝓤 𝓛.H 𝓜 𝓡 𝓡.env).Λ key code.function (code.unfolded 𝓤 𝓛.H 𝓜 𝓡 wired)
+    (next-meets 𝓛 𝓜.mem 𝓡.returns (tables_of 𝓤 𝓛.H 𝓜 (tables 𝓤 𝓛.H 𝓜 𝓡 𝓡.env))
+    (step_thm.met 𝓤 𝓛 𝓜 𝓡 (code.calls-trace::next_record 𝓡.env wired)))
