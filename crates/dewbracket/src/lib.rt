@@ -1,5 +1,6 @@
-//! The device for C and Rust to link, by the exports of `dewbracket_c`. `new` and the questions go by value. An access and a raise go by value, or behind a lent
-//! device: then with the same promises, and by the short way where that is enough. The polls are that short way alone.
+//! The device for C and Rust to link, by the exports of `dewbracket_c`. `new` and the questions go by value. An access and a
+//! raise go by value, or behind a lent device: then with the same promises, and by the short way where that is enough. The
+//! polls are that short way alone.
 
 #![tactic(auto)]
 
@@ -47,6 +48,7 @@ pub fn dewbracket_driver_status(d: MmioV2Device) -> u32
 }
 
 /// What a field of a queue holds, the fields numbered from 0 to 7; or refusal 13.
+#[tactic(auto, unfolding(crate::specs::Numbers::asked_by_number))]
 pub fn dewbracket_field(d: MmioV2Device, queue: u32, field: u32) -> Reply
     ensures { result ≡ asked_by_number d.state queue field }
 {
@@ -60,6 +62,7 @@ pub fn dewbracket_field(d: MmioV2Device, queue: u32, field: u32) -> Reply
 }
 
 /// Whether a registration of a queue stands, 0 its doorbell and 1 its notify word, and with what; or refusal 13.
+#[tactic(auto, unfolding(crate::specs::Numbers::held_by_number))]
 pub fn dewbracket_held_entry(d: MmioV2Device, queue: u32, kind: u32) -> Standing
     ensures { result ≡ held_by_number d.state queue kind }
 {

@@ -1,3 +1,4 @@
+use native.Mathlib.Omega.{arith}
 use Rattle.mmio_v2.proofs.Replying.{ask-config, ask-nothing}
 use Rattle.mmio_v2.proofs.ask.Goals as goal
 
@@ -8,4 +9,4 @@ pub returns-then-offset-ge-MMIO_CFG_SPACE_OFF : goal.returns-then-offset-ge-MMIO
 returns-then-offset-ge-MMIO_CFG_SPACE_OFF c = both (λ v w. record { value = v; actions_after = w }) (ask-config c.args.s c.args.offset c.args.len _ _ _ c.requires c.if-offset-ge-MMIO_CFG_SPACE_OFF.true c.get_device_config-d.ensures.value c.get_device_config-d.ensures.actions_after)
 
 pub returns : goal.returns
-returns c = both (λ v w. record { value = v; actions_after = w }) (ask-nothing c.args.s c.args.offset c.args.len _ c.if-offset-ge-MMIO_CFG_SPACE_OFF.false)
+returns c = both (λ v w. record { value = v; actions_after = w }) (ask-nothing c.args.s c.args.offset c.args.len _ (omega arith))

@@ -7,4 +7,4 @@ pub returns-then-s-ge2 : goal.returns-then-s-ge2
 returns-then-s-ge2 c = c.half_of.ensures ∙ (omega arith ∙ long-read 2 _ c.if-s-ge2.true)
 
 pub returns : goal.returns
-returns c = short-read 2 _ c.if-s-ge2.false
+returns c = short-read 2 _ (omega arith)

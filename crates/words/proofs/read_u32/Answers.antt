@@ -7,4 +7,4 @@ pub returns-then-s-ge4 : goal.returns-then-s-ge4
 returns-then-s-ge4 c = c.word_of.ensures ∙ (omega arith ∙ long-read 4 _ c.if-s-ge4.true)
 
 pub returns : goal.returns
-returns c = short-read 4 _ c.if-s-ge4.false
+returns c = short-read 4 _ (omega arith)

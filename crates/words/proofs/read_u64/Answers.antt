@@ -7,4 +7,4 @@ pub returns-then-s-ge8 : goal.returns-then-s-ge8
 returns-then-s-ge8 c = c.joined.ensures ∙ (omega (arith, c.word_of.ensures, c.word_of-then-s-ge8.ensures) ∙ long-read 8 _ c.if-s-ge8.true)
 
 pub returns : goal.returns
-returns c = short-read 8 _ c.if-s-ge8.false
+returns c = short-read 8 _ (omega arith)

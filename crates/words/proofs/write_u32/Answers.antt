@@ -1,10 +1,7 @@
-use Rattle.words.proofs.Bytes.{overwritten, short_write}
+use Rattle.words.proofs.Bytes.{overwritten}
 use lib.ListN.{length-set}
 use native.Mathlib.Omega.{arith}
 use Rattle.words.proofs.write_u32.Goals as goal
-
-pub returns-then-s-lt4 : goal.returns-then-s-lt4
-returns-then-s-lt4 c = short_write 4 _ _ c.if-s-lt4.true
 
 pub bounds-s-1 : goal.bounds-s-1
 bounds-s-1 c = simp length-set (omega arith)
@@ -16,4 +13,4 @@ pub bounds-s-3 : goal.bounds-s-3
 bounds-s-3 c = simp length-set (omega arith)
 
 pub returns : goal.returns
-returns c = overwritten 3 _ _ c.if-s-lt4.false
+returns c = overwritten 3 _ _ (omega arith)

@@ -1,0 +1,2 @@
+-- What each promise of an export determines.
+pub mod Determined
