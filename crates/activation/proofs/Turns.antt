@@ -1,189 +1,129 @@
 -- One request after the other: refused, what follows it is left to play; accepted, the other requests are.
-use mathlib.Core.Bool.{Bool, true, false, true≢false}
+use mathlib.Core.Bool.{Bool, true, false}
 use mathlib.Core.Path.{◌≡◌, refl, sym, ap, ◌∙◌}
-use mathlib.Core.List.{List, [], ◌∷◌}
-use Prim.Native.Nat.{ℕ, suc, ◌+◌, ◌-◌, ◌<◌, ◌≤◌}
-use native.Mathlib.Nat.{sub-zero}
+use mathlib.Core.List.{List, [], ◌∷◌, ◌++◌, append_assoc, append-nil}
+use Prim.Native.Nat.{ℕ, zero, suc, ◌+◌, ◌-◌, ◌<◌}
+use native.Mathlib.Nat.{add-zero, zero-add, suc-add}
 use native.Mathlib.Omega.{arith}
-use lib.ListN.{length}
-use Rattle.words.specs.Pick.{pick}
-use Rattle.virtq.specs.declared.QueueIndex.{QueueIndex}
-use Rattle.tape.specs.Actions.{enable_interrupts, activate_device}
-use Rattle.tape.specs.Held.{left_after, entry, register, unregister, bell, note}
-use Rattle.tape.specs.Play.{Sheet, sheet, one, play, Played}
-use Rattle.tape.proofs.Playing.{one_left, same-long}
+use Rattle.std.specs.Prelude.{Result, Ok, Err}
+use Rattle.tape.specs.Held.{left_after}
+use Rattle.tape.specs.Play.{Sheet, sheet, play, Played}
+use Rattle.tape.proofs.Playing.{one_left}
 use Rattle.tape.specs.declared.Tape.{Tape}
-use Rattle.activation.specs.Requests.{Request, Bell, Note, Enable, Activate, lasts, requests, wipes, record_of, after, asks, starts}
-use Rattle.activation.specs.Ties.{follow, goes, Turned, Gone, Began}
-use Rattle.activation.specs.declared.Place.{Place}
-use Rattle.activation.specs.declared.Place.TheVariants.{All, Door, Notify}
-use Rattle.activation.specs.declared.Tried.{Tried}
-use Rattle.activation.specs.declared.Begun.{Begun}
+use Rattle.activation.specs.Requests.{Request, Bell, Note, Enable, Activate, lasts, turn, requests, record_of, asks, starts}
+use Rattle.activation.specs.Ties.{request_of, undoing, turns, follow, Asked}
+use Rattle.activation.specs.declared.Request.{Request as Asking}
 
 -- ---- one request
 
-module _ (b : ℕ) (d : Bool) (n : ℕ) (x : Request) (xs : List Request) (l : List ℕ) (t : Tape) (l' : List ℕ) (a : Tape)
-    (e : sheet l' a ≡ one b (sheet l t) (record_of b x)) where
+module _ (t : Tape) (x : Asking) (a : Tape) (e : Played t (record_of t.base (request_of x) ∷ []) a) where
   left_is : a.left ≡ t.left - 1
-  left_is = ap (λ (s : Sheet). s.tape.left) e ∙ one_left b l t (record_of b x) ∙ by_kind x
+  left_is = ap (λ (s : Sheet). s.left) e.is ∙ one_left t.base (sheet t) (record_of t.base (request_of x)) ∙ by_kind (request_of x)
     where
-      by_kind : (y : Request) → left_after t.left (record_of b y) ≡ t.left - 1
+      by_kind : (y : Request) → left_after t.left (record_of t.base y) ≡ t.left - 1
       by_kind (Bell i) = refl
       by_kind (Note i) = refl
       by_kind Enable = refl
       by_kind Activate = refl
 
-  denied : t.left ≡ 0 → play b (sheet l' a) (after b d n x) ≡ play b (sheet l t) (asks b d n t.left (x ∷ xs))
-  denied h = ap (λ (s : Sheet). play b s (after b d n x)) e ∙ ap (λ (k : ℕ). play b (sheet l t) (asks b d n k (x ∷ xs))) (sym h)
-
-  granted : (t.left ≡ 0 → ⊥) → play b (sheet l' a) (asks b d n a.left xs) ≡ play b (sheet l t) (asks b d n t.left (x ∷ xs))
-  granted h =
-      let s : suc (t.left - 1) ≡ t.left = omega arith in
-      ap (λ (k : ℕ). play b (sheet l' a) (asks b d n k xs)) left_is
-      ∙ ap (λ (s : Sheet). play b s (asks b d n (t.left - 1) xs)) e
-      ∙ ap (λ (k : ℕ). play b (sheet l t) (asks b d n k (x ∷ xs))) s
-
-  denied-ends : t.left ≡ 0 → false ≡ starts t.left (x ∷ xs)
-  denied-ends h = ap (λ (k : ℕ). starts k (x ∷ xs)) (sym h)
-
-  granted-ends : (t.left ≡ 0 → ⊥) → starts a.left xs ≡ starts t.left (x ∷ xs)
-  granted-ends h =
-      let s : suc (t.left - 1) ≡ t.left = omega arith in
-      ap (λ (k : ℕ). starts k xs) left_is ∙ ap (λ (k : ℕ). starts k (x ∷ xs)) s
-
--- ---- one queue's registrations, by how they went
-
-module _ (b : ℕ) (q : QueueIndex) (l : List ℕ) (t : Tape) (l' : List ℕ) (a : Tape) where
-  module _ (e : sheet l' a ≡ one b (sheet l t) (register (bell b q.0))) where
-    pub turned-door : t.left ≡ 0 → Turned b true q.0 l t l' (record { tape = a; place = Door q })
-    turned-door h =
-        record {
-          rest = λ n xs. denied b true n (Bell q.0) (Note q.0 ∷ xs) l t l' a e h;
-          ends = λ xs. denied-ends b true 0 (Bell q.0) (Note q.0 ∷ xs) l t l' a e h;
-        }
-
-    module _ (l'' : List ℕ) (c : Tape) (f : sheet l'' c ≡ one b (sheet l' a) (register (note b q.0))) (g : t.left ≡ 0 → ⊥) where
-      pub turned-notify : a.left ≡ 0 → Turned b true q.0 l t l'' (record { tape = c; place = Notify q })
-      turned-notify h =
-          record {
-            rest = λ n xs. denied b true n (Note q.0) xs l' a l'' c f h ∙ granted b true n (Bell q.0) (Note q.0 ∷ xs) l t l' a e g;
-            ends = λ xs. denied-ends b true 0 (Note q.0) xs l' a l'' c f h ∙ granted-ends b true 0 (Bell q.0) (Note q.0 ∷ xs) l t l' a e g;
-          }
-
-      pub turned-both : (a.left ≡ 0 → ⊥) → Turned b true q.0 l t l'' (record { tape = c; place = All })
-      turned-both h =
-          record {
-            rest = λ n xs. granted b true n (Note q.0) xs l' a l'' c f h ∙ granted b true n (Bell q.0) (Note q.0 ∷ xs) l t l' a e g;
-            ends = λ xs. granted-ends b true 0 (Note q.0) xs l' a l'' c f h ∙ granted-ends b true 0 (Bell q.0) (Note q.0 ∷ xs) l t l' a e g;
-          }
-
-  module _ (e : sheet l' a ≡ one b (sheet l t) (register (note b q.0))) where
-    pub turned-refused : t.left ≡ 0 → Turned b false q.0 l t l' (record { tape = a; place = Notify q })
-    turned-refused h =
-        record {
-          rest = λ n xs. denied b false n (Note q.0) xs l t l' a e h;
-          ends = λ xs. denied-ends b false 0 (Note q.0) xs l t l' a e h;
-        }
-
-    pub turned-only : (t.left ≡ 0 → ⊥) → Turned b false q.0 l t l' (record { tape = a; place = All })
-    turned-only h =
-        record {
-          rest = λ n xs. granted b false n (Note q.0) xs l t l' a e h;
-          ends = λ xs. granted-ends b false 0 (Note q.0) xs l t l' a e h;
-        }
-
--- ---- 3 and 4
-
-module _ (b : ℕ) (l : List ℕ) (t : Tape) (l' : List ℕ) (a : Tape) (e : sheet l' a ≡ one b (sheet l t) enable_interrupts) where
-  pub began-none : t.left ≡ 0 → Began b l t l' (record { tape = a; ok = false })
-  began-none h =
+  pub refused : t.left ≡ 0 → Asked t (request_of x ∷ []) a (Err x)
+  refused h =
       record {
-        rest = λ d n. denied b d n Enable (Activate ∷ []) l t l' a e h;
-        ends = denied-ends b true 0 Enable (Activate ∷ []) l t l' a e h;
+        same = e.same;
+        base = e.base;
+        rest = λ d n xs. ap (λ (s : Sheet). play t.base s (undoing t.base d n x)) e.is
+            ∙ ap (λ (k : ℕ). play t.base (sheet t) (asks t.base d n k (request_of x ∷ xs))) (sym h);
+        ends = λ xs. ap (λ (k : ℕ). starts k (request_of x ∷ xs)) (sym h);
       }
 
-  module _ (l'' : List ℕ) (c : Tape) (f : sheet l'' c ≡ one b (sheet l' a) activate_device) (g : t.left ≡ 0 → ⊥) where
-    pub began-one : a.left ≡ 0 → Began b l t l'' (record { tape = c; ok = false })
-    began-one h =
-        record {
-          rest = λ d n. denied b d n Activate [] l' a l'' c f h ∙ granted b d n Enable (Activate ∷ []) l t l' a e g;
-          ends = denied-ends b true 0 Activate [] l' a l'' c f h ∙ granted-ends b true 0 Enable (Activate ∷ []) l t l' a e g;
-        }
-
-    pub began-both : (a.left ≡ 0 → ⊥) → Began b l t l'' (record { tape = c; ok = true })
-    began-both h =
-        record {
-          rest = λ d n. granted b d n Activate [] l' a l'' c f h ∙ granted b d n Enable (Activate ∷ []) l t l' a e g;
-          ends = granted-ends b true 0 Activate [] l' a l'' c f h ∙ granted-ends b true 0 Enable (Activate ∷ []) l t l' a e g;
-        }
-
-module _ {b : ℕ} (d : Bool) (n : ℕ) {l : List ℕ} {t : Tape} {l' : List ℕ} {r : Begun} (g : Began b l t l' r) where
-  pub began-yes : r.ok ≡ true → Played b l t (asks b d n t.left lasts) l' r.tape
-  began-yes h = record { is = ap (λ (o : Bool). play b (sheet l' r.tape) (pick o [] (wipes b n true))) (sym h) ∙ g.rest d n }
-
-  pub began-no : r.ok ≡ false → {l'' : List ℕ} {u : Tape} → Played b l' r.tape (wipes b n true) l'' u → Played b l t (asks b d n t.left lasts) l'' u
-  began-no h f =
-      record { is = f.is ∙ ap (λ (o : Bool). play b (sheet l' r.tape) (pick o [] (wipes b n true))) (sym h) ∙ g.rest d n }
-
--- ---- all queues' registrations
-
-abbrev pub is_all : Place → Bool
-is_all All = true
-is_all (Door q) = false
-is_all (Notify q) = false
-
-module _ (b : ℕ) (d : Bool) (n : ℕ) (l₀ : List ℕ) (t₀ : Tape) where
-  pub gone-first : Gone b d n l₀ t₀ (requests d 0 (n - 0)) l₀ (record { tape = t₀; place = All })
-  gone-first = record { rest = rw (sub-zero n); ends = rw (sub-zero n) }
-
-  -- at a refused place it does not matter what was still to be asked
-  pub gone-stop : (xs ys : List Request) (l : List ℕ) (r : Tried) → is_all r.place ≡ false → Gone b d n l₀ t₀ xs l r → Gone b d n l₀ t₀ ys l r
-  gone-stop xs ys l r h g =
+  pub accepted : (t.left ≡ 0 → ⊥) → Asked t (request_of x ∷ []) a (Ok tt)
+  accepted h =
+      let s : suc (t.left - 1) ≡ t.left = omega arith in
       record {
-        rest = ap (play b (sheet l r.tape)) (same-follow r.place h) ∙ g.rest;
-        ends = same-goes r.place h ∙ g.ends;
+        same = e.same;
+        base = e.base;
+        rest = λ d n xs. ap (λ (k : ℕ). play t.base (sheet a) (asks t.base d n k xs)) left_is
+            ∙ ap (λ (q : Sheet). play t.base q (asks t.base d n (t.left - 1) xs)) e.is
+            ∙ ap (λ (k : ℕ). play t.base (sheet t) (asks t.base d n k (request_of x ∷ xs))) s;
+        ends = λ xs. ap (λ (k : ℕ). starts k xs) left_is ∙ ap (λ (k : ℕ). starts k (request_of x ∷ xs)) s;
       }
-    where
-      same-follow : (p : Place) → is_all p ≡ false → follow b d n r.tape.left ys p ≡ follow b d n r.tape.left xs p
-      same-follow All e = absurd (true≢false e)
-      same-follow (Door q) e = refl
-      same-follow (Notify q) e = refl
 
-      same-goes : (p : Place) → is_all p ≡ false → goes r.tape.left ys p ≡ goes r.tape.left xs p
-      same-goes All e = absurd (true≢false e)
-      same-goes (Door q) e = refl
-      same-goes (Notify q) e = refl
+-- ---- several
 
-  pub gone_long : (xs : List Request) (l : List ℕ) (r : Tried) → Gone b d n l₀ t₀ xs l r → length l ≡ length l₀
-  gone_long xs l r g = same-long b (sheet l r.tape) (sheet l₀ t₀) (follow b d n r.tape.left xs r.place) (asks b d n t₀.left (requests d 0 n)) g.rest
+pub none : (t : Tape) → Asked t [] t (Ok tt)
+none t = record { same = refl; base = refl; rest = λ d n xs. refl; ends = λ xs. refl }
 
-  pub gone-played : {xs : List Request} {l : List ℕ} {r : Tried} {l' : List ℕ} {u : Tape} → Gone b d n l₀ t₀ xs l r
-      → Played b l r.tape (follow b d n r.tape.left xs r.place) l' u → Played b l₀ t₀ (asks b d n t₀.left (requests d 0 n)) l' u
-  gone-played g f = record { is = f.is ∙ g.rest }
+module _ {t : Tape} {ys : List Request} {t' : Tape} where
+  -- one is refused: the others are not asked
+  pub ended : {x : Asking} (zs : List Request) → Asked t ys t' (Err x) → Asked t (ys ++ zs) t' (Err x)
+  ended {x} zs f =
+      record {
+        same = f.same;
+        base = f.base;
+        rest = λ d n xs. rw (append_assoc ys zs xs) (f.rest d n (zs ++ xs));
+        ends = λ xs. rw (append_assoc ys zs xs) (f.ends (zs ++ xs));
+      }
 
-  module _ (i : ℕ) (l : List ℕ) (r : Tried) (p : r.place ≡ All) (g : Gone b d n l₀ t₀ (requests d i (n - i)) l r) where
-    pub gone-more : i < n → (l' : List ℕ) (r' : Tried) → Turned b d i l r.tape l' r' → Gone b d n l₀ t₀ (requests d (i + 1) (n - (i + 1))) l' r'
-    gone-more h l' r' t =
-        let e : suc (n - (i + 1)) ≡ n - i = omega arith in
-        record {
-          rest =
-              t.rest n (requests d (i + 1) (n - (i + 1)))
-              ∙ ap (λ (m : ℕ). play b (sheet l r.tape) (asks b d n r.tape.left (requests d i m))) e
-              ∙ ap (λ (q : Place). play b (sheet l r.tape) (follow b d n r.tape.left (requests d i (n - i)) q)) (sym p)
-              ∙ g.rest;
-          ends =
-              t.ends (requests d (i + 1) (n - (i + 1)))
-              ∙ ap (λ (m : ℕ). starts r.tape.left (requests d i m)) e
-              ∙ ap (goes r.tape.left (requests d i (n - i))) (sym p)
-              ∙ g.ends;
-        }
+  pub further : {zs : List Request} {t'' : Tape} {r : Result (Unit {0}) Asking} → Asked t ys t' (Ok tt) → Asked t' zs t'' r → Asked t (ys ++ zs) t'' r
+  further {zs} {t''} {r} f g =
+      record {
+        same = g.same ∙ f.same;
+        base = g.base ∙ f.base;
+        rest = λ d n xs.
+            ap (λ (b : ℕ). play b (sheet t'') (follow b d n t''.left xs r)) (sym f.base)
+            ∙ g.rest d n xs
+            ∙ ap (λ (b : ℕ). play b (sheet t') (asks b d n t'.left (zs ++ xs))) f.base
+            ∙ f.rest d n (zs ++ xs)
+            ∙ ap (λ (q : List Request). play t.base (sheet t) (asks t.base d n t.left q)) (sym (append_assoc ys zs xs));
+        ends = λ xs. g.ends xs ∙ f.ends (zs ++ xs) ∙ ap (starts t.left) (sym (append_assoc ys zs xs));
+      }
 
-    pub gone-last : n ≤ i → Gone b d n l₀ t₀ lasts l r
-    gone-last h = let e : n - i ≡ 0 = omega arith in rw e at g
+  pub asking : {zs : List Request} {r : Result (Unit {0}) Asking} → ys ≡ zs → Asked t ys t' r → Asked t zs t' r
+  asking q f = rw q at f
 
--- the undo's value is taken before its queue is counted down
-pub reverted : (b : ℕ) (s s' : Sheet) (address : ℕ) (w : Bool) (j : ℕ) → 0 < j → s' ≡ one b s (unregister (entry (j - 1) address 8 (pick w 0 j)))
-    → s' ≡ one b s (unregister (entry (j - 1) address 8 (pick w 0 ((j - 1) + 1))))
-reverted b s s' address w j h e =
-    let d : j ≡ (j - 1) + 1 = omega arith in
-    e ∙ ap (λ (v : ℕ). one b s (unregister (entry (j - 1) address 8 (pick w 0 v)))) d
+-- ---- every queue's
+
+turn-join : (d : Bool) (i : ℕ) (ys zs : List Request) → turn d i (ys ++ zs) ≡ turn d i ys ++ zs
+turn-join true i ys zs = refl
+turn-join false i ys zs = refl
+
+turns-join : (d : Bool) (i m k : ℕ) → turns d i (m + k) ≡ turns d i m ++ turns d (i + m) k
+turns-join d i zero k = rw (zero-add k, add-zero i) refl
+turns-join d i (suc m) k =
+    let e : (i + 1) + m ≡ i + suc m = omega arith in
+    rw (suc-add m k) (ap (turn d i) (turns-join d (i + 1) m k ∙ ap (λ (j : ℕ). turns d (i + 1) m ++ turns d j k) e) ∙ turn-join d i (turns d (i + 1) m) (turns d (i + suc m) k))
+
+-- the registrations of one more queue
+pub turns-next : (d : Bool) (i : ℕ) → turns d 0 i ++ turn d i [] ≡ turns d 0 (i + 1)
+turns-next d i = rw (zero-add i) at (sym (turns-join d 0 i 1))
+
+-- and those of all queues past it
+pub turns-others : (d : Bool) (i n : ℕ) → i < n → turns d 0 (i + 1) ++ turns d (i + 1) (n - (i + 1)) ≡ turns d 0 n
+turns-others d i n h =
+    let e : (i + 1) + (n - (i + 1)) ≡ n = omega arith in
+    let z : 0 + (i + 1) ≡ i + 1 = omega arith in
+    rw (e, z) at (sym (turns-join d 0 (i + 1) (n - (i + 1))))
+
+pub turns-lasts : (d : Bool) (i m : ℕ) → turns d i m ++ lasts ≡ requests d i m
+turns-lasts d i zero = refl
+turns-lasts d i (suc m) = sym (turn-join d i (turns d (i + 1) m) lasts) ∙ ap (turn d i) (turns-lasts d (i + 1) m)
+
+-- ---- an attempt: all accepted, or what follows the refusal played
+
+module _ {t : Tape} {ys : List Request} {t' : Tape} where
+  pub all-accepted : (d : Bool) (n : ℕ) → Asked t ys t' (Ok tt) → Played t (asks t.base d n t.left ys) t'
+  all-accepted d n f = record { same = f.same; base = f.base; is = rw (append-nil ys) at (f.rest d n []) }
+
+  pub all-starts : Asked t ys t' (Ok tt) → true ≡ starts t.left ys
+  all-starts f = rw (append-nil ys) at (f.ends [])
+
+  pub undone : (d : Bool) (n : ℕ) {x : Asking} {t'' : Tape} → Asked t ys t' (Err x) → Played t' (undoing t'.base d n x) t'' → Played t (asks t.base d n t.left ys) t''
+  undone d n {x} {t''} f g =
+      record {
+        same = g.same ∙ f.same;
+        base = g.base ∙ f.base;
+        is = g.is ∙ ap (λ (b : ℕ). play b (sheet t') (undoing b d n x)) f.base ∙ (rw (append-nil ys) at (f.rest d n []));
+      }
+
+  pub not-started : {x : Asking} → Asked t ys t' (Err x) → false ≡ starts t.left ys
+  not-started f = rw (append-nil ys) at (f.ends [])

@@ -1,38 +1,41 @@
 -- What is left to do from here comes to the whole: the contracts of the private functions. A reader of the public promises
 -- needs none of these.
-use Rattle.std.specs.Prelude.{◌≡◌, Bool, true, false, List, [], ℕ}
-use Rattle.words.specs.Pick.{pick}
+use Rattle.std.specs.Prelude.{◌≡◌, Bool, false, List, [], ◌++◌, ℕ, zero, suc, ◌+◌, Result, Ok, Err}
 use Rattle.words.specs.declared.Action.{Action}
 use Rattle.tape.specs.Play.{sheet, play}
 use Rattle.tape.specs.declared.Tape.{Tape}
-use Rattle.activation.specs.Requests.{Request, Bell, Note, wipes, turn, lasts, requests, after, asks, starts}
-use Rattle.activation.specs.declared.Place.{Place}
-use Rattle.activation.specs.declared.Place.TheVariants.{All, Door, Notify}
-use Rattle.activation.specs.declared.Tried.{Tried}
-use Rattle.activation.specs.declared.Begun.{Begun}
+use Rattle.activation.specs.Requests.{Request, Bell, Note, Enable, Activate, turn, after, asks, starts}
+use Rattle.activation.specs.declared.Request.{Request as Asking}
+use Rattle.activation.specs.declared.Request.TheVariants.{Doorbell, Notify, Interrupts, Device}
 
--- the records that follow at a place, if xs are the requests still to be asked with k answers left; and whether it starts
-abbrev pub follow : (b : ℕ) (d : Bool) (n k : ℕ) → List Request → Place → List Action
-follow b d n k xs All = asks b d n k xs
-follow b d n k xs (Door q) = after b d n (Bell q.0)
-follow b d n k xs (Notify q) = after b d n (Note q.0)
+-- the request that the code names
+abbrev pub request_of : Asking → Request
+request_of (Doorbell q) = Bell q.0
+request_of (Notify q) = Note q.0
+request_of Interrupts = Enable
+request_of Device = Activate
 
-abbrev pub goes : (k : ℕ) → List Request → Place → Bool
-goes k xs All = starts k xs
-goes k xs (Door q) = false
-goes k xs (Notify q) = false
+abbrev pub undoing : (b : ℕ) (d : Bool) (n : ℕ) → Asking → List Action
+undoing b d n x = after b d n (request_of x)
 
--- one queue's registrations were asked, whatever comes after them
-pub record Turned (b : ℕ) (d : Bool) (i : ℕ) (l : List ℕ) (t : Tape) (l' : List ℕ) (r : Tried) : Type 0 where
-  pub rest : (n : ℕ) (xs : List Request) → play b (sheet l' r.tape) (follow b d n r.tape.left xs r.place) ≡ play b (sheet l t) (asks b d n t.left (turn d i xs))
-  pub ends : (xs : List Request) → goes r.tape.left xs r.place ≡ starts t.left (turn d i xs)
+-- the registrations of m queues from queue i on
+abbrev pub turns : (d : Bool) (i m : ℕ) → List Request
+turns d i zero = []
+turns d i (suc m) = turn d i (turns d (i + 1) m)
 
--- the requests xs are still to be asked
-pub record Gone (b : ℕ) (d : Bool) (n : ℕ) (l : List ℕ) (t : Tape) (xs : List Request) (l' : List ℕ) (r : Tried) : Type 0 where
-  pub rest : play b (sheet l' r.tape) (follow b d n r.tape.left xs r.place) ≡ play b (sheet l t) (asks b d n t.left (requests d 0 n))
-  pub ends : goes r.tape.left xs r.place ≡ starts t.left (requests d 0 n)
+-- the records that follow an answer, if xs are the requests still to be asked with k answers left; and whether it starts
+abbrev pub follow : (b : ℕ) (d : Bool) (n k : ℕ) → List Request → Result (Unit {0}) Asking → List Action
+follow b d n k xs (Ok u) = asks b d n k xs
+follow b d n k xs (Err x) = undoing b d n x
 
--- 3 and 4 were asked, for any number of queues
-pub record Began (b : ℕ) (l : List ℕ) (t : Tape) (l' : List ℕ) (r : Begun) : Type 0 where
-  pub rest : (d : Bool) (n : ℕ) → play b (sheet l' r.tape) (pick r.ok [] (wipes b n true)) ≡ play b (sheet l t) (asks b d n t.left lasts)
-  pub ends : r.ok ≡ starts t.left lasts
+abbrev pub goes : (k : ℕ) → List Request → Result (Unit {0}) Asking → Bool
+goes k xs (Ok u) = starts k xs
+goes k xs (Err x) = false
+
+-- The requests ys were asked, up to the one that was refused, if one was: whatever the other requests are, what follows
+-- comes to the whole.
+pub record Asked (t : Tape) (ys : List Request) (t' : Tape) (r : Result (Unit {0}) Asking) : Type 0 where
+  pub same : t'.words.ghost_name ≡ t.words.ghost_name
+  pub base : t'.base ≡ t.base
+  pub rest : (d : Bool) (n : ℕ) (xs : List Request) → play t.base (sheet t') (follow t.base d n t'.left xs r) ≡ play t.base (sheet t) (asks t.base d n t.left (ys ++ xs))
+  pub ends : (xs : List Request) → goes t'.left xs r ≡ starts t.left (ys ++ xs)

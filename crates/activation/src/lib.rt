@@ -6,13 +6,15 @@
 
 #![tactic(auto)]
 
-ghost use Rattle.std.specs.Prelude.{◌≡◌, Bool, true, false, ℕ, ◌+◌};
+ghost use Rattle.std.specs.Prelude.{◌≡◌, Bool, true, false, ℕ, ◌+◌, ◌<◌, [], ◌∷◌};
 ghost use Rattle.words.specs.Pick.{pick};
+ghost use Rattle.words.specs.Lists.{up};
+ghost use Rattle.words.specs.declared.Action.{Action};
 ghost use Rattle.tape.specs.Actions.{act};
-ghost use Rattle.tape.specs.Held.{bell, entry, note, register, unregister};
+ghost use Rattle.tape.specs.Held.{entry, unregister};
 ghost use Rattle.tape.specs.Play.{Played};
-ghost use Rattle.activation.specs.Requests.{Bell, Note, after, asks, begins, bells_off, lasts, notes_off, requests, reverts, start_records, starts, stop_records, stops, wipes};
-ghost use Rattle.activation.specs.Ties.{Began, Gone, Turned, follow, goes};
+ghost use Rattle.activation.specs.Requests.{Bell, Note, begins, bells_off, notes_off, lasts, record_of, requests, reverts, start_records, starts, stop_records, stops, turn, wipes, asks};
+ghost use Rattle.activation.specs.Ties.{Asked, request_of, turns, undoing};
 
 use tape::{
     ACTION_ACTIVATE, ACTION_ENABLE_INTERRUPTS, ACTION_RESET_DEVICE, ACTION_RESET_INTERRUPTS, Entry,
@@ -21,26 +23,13 @@ use tape::{
 use virtq::QueueIndex;
 use words::Action;
 
-/// Where a registration was refused.
-#[derive(Clone, Copy)]
-pub enum Place {
-    All,
-    Door(QueueIndex),
+/// What an activation asks, one after the other. The one that is refused says what is to be undone.
+#[derive(Clone, Copy, PartialEq, Eq, Debug)]
+pub enum Request {
+    Doorbell(QueueIndex),
     Notify(QueueIndex),
-}
-
-/// The tape after the registrations, and where they were refused.
-#[derive(Clone, Copy)]
-pub struct Tried {
-    pub tape: Tape,
-    pub place: Place,
-}
-
-/// The tape after the last record, and whether every request was accepted.
-#[derive(Clone, Copy)]
-pub struct Begun {
-    pub tape: Tape,
-    pub ok: bool,
+    Interrupts,
+    Device,
 }
 
 fn plain(kind: u64) -> Action
@@ -48,129 +37,103 @@ fn plain(kind: u64) -> Action
 {
     Action {
         kind,
-        a: 0,
-        b: 0,
-        c: 0,
-        d: 0,
+        ..Action::default()
     }
 }
 
-fn bell_on(base: u64, q: QueueIndex) -> Action
-    ensures { result ≡ register (bell base q.0) }
-{
-    tape::bell_entry(base, q).register()
+impl Request {
+    fn record(self, base: u64) -> Action
+        ensures { result ≡ record_of base (request_of self) }
+    {
+        match self {
+            Request::Doorbell(q) => tape::bell_entry(base, q).register(),
+            Request::Notify(q) => tape::note_entry(base, q).register(),
+            Request::Interrupts => plain(ACTION_ENABLE_INTERRUPTS),
+            Request::Device => plain(ACTION_ACTIVATE),
+        }
+    }
 }
 
-fn note_on(base: u64, q: QueueIndex) -> Action
-    ensures { result ≡ register (note base q.0) }
+// One request, and whether it was accepted.
+fn ask(tape: &mut Tape, request: Request) -> Result<(), Request>
+    ensures { Asked tape.old (request_of request ∷ []) tape.new result }
 {
-    tape::note_entry(base, q).register()
-}
-
-fn bell_off(base: u64, q: QueueIndex) -> Action
-    ensures { result ≡ unregister (bell base q.0) }
-{
-    tape::bell_entry(base, q).unregister()
-}
-
-fn note_off(base: u64, q: QueueIndex) -> Action
-    ensures { result ≡ unregister (note base q.0) }
-{
-    tape::note_entry(base, q).unregister()
+    let accepted = tape.left != 0;
+    tape.emit(request.record(tape.base));
+    if accepted { Ok(()) } else { Err(request) }
 }
 
 // One queue's registrations.
-fn register_one(actions: &mut [u64], t: Tape, base: u64, bell: bool, q: QueueIndex) -> Tried
-    ensures { Turned base bell q.0 actions.old t actions.new result }
+fn register_one(tape: &mut Tape, bell: bool, q: QueueIndex) -> Result<(), Request>
+    ensures { Asked tape.old (turn bell q.0 []) tape.new result }
 {
     if bell {
-        let a = tape::emit(&mut *actions, t, base, bell_on(base, q));
-        if t.left == 0 {
-            return Tried {
-                tape: a,
-                place: Place::Door(q),
-            };
-        }
-        let b = tape::emit(&mut *actions, a, base, note_on(base, q));
-        if a.left == 0 {
-            return Tried {
-                tape: b,
-                place: Place::Notify(q),
-            };
-        }
-        return Tried {
-            tape: b,
-            place: Place::All,
-        };
+        ask(tape, Request::Doorbell(q))?;
     }
-    let b = tape::emit(&mut *actions, t, base, note_on(base, q));
-    if t.left == 0 {
-        return Tried {
-            tape: b,
-            place: Place::Notify(q),
-        };
+    ask(tape, Request::Notify(q))
+}
+
+// Every queue's registrations, up to the refused place.
+fn register_ioevent(tape: &mut Tape, bell: bool, n: u32) -> Result<(), Request>
+    ensures { Asked tape.old (turns bell 0 n) tape.new result }
+{
+    for i in 0..n {
+        register_one(tape, bell, QueueIndex(i))?;
     }
-    Tried {
-        tape: b,
-        place: Place::All,
+    Ok(())
+}
+
+// Enable interrupts, then activate.
+fn begin(tape: &mut Tape) -> Result<(), Request>
+    ensures { Asked tape.old lasts tape.new result }
+{
+    ask(tape, Request::Interrupts)?;
+    ask(tape, Request::Device)
+}
+
+fn ask_all(tape: &mut Tape, bell: bool, n: u32) -> Result<(), Request>
+    ensures { Asked tape.old (requests bell 0 n) tape.new result }
+{
+    register_ioevent(tape, bell, n)?;
+    begin(tape)
+}
+
+// A record of each queue, in queue order.
+fn tell_each<F: Fn(QueueIndex) -> Action>(tape: &mut Tape, n: u32, tell: F)
+    requires { F.IsAlwaysCallable tell }
+    ensures { (f : ℕ → Action) → ((q : ℕ) (x : Action) → F.post tell (record { 0 = q }) x → x ≡ f q) → Played tape.old (up 0 n f) tape.new }
+{
+    for i in 0..n {
+        tape.emit(tell(QueueIndex(i)));
     }
 }
 
-// Every queue's registrations, left by a break with the refused place.
-fn register_ioevent(actions: &mut [u64], t: Tape, base: u64, bell: bool, n: u32) -> Tried
-    ensures { Gone base bell n actions.old t lasts actions.new result }
+// The notifies of a full set.
+fn unregister_ioevent(tape: &mut Tape, n: u32)
+    ensures { Played tape.old (notes_off tape.old.base n) tape.new }
 {
-    let mut i: u32 = 0;
-    let mut r = Tried {
-        tape: t,
-        place: Place::All,
-    };
-    while i < n {
-        let u = r.tape;
-        r = register_one(&mut *actions, u, base, bell, QueueIndex(i));
-        let p = r.place;
-        match p {
-            Place::All => {
-                i = i + 1;
-            }
-            Place::Door(_) => {
-                break;
-            }
-            Place::Notify(_) => {
-                break;
-            }
-        }
-    }
-    r
+    let base = tape.base;
+    tell_each(tape, n, |q| tape::note_entry(base, q).unregister());
 }
 
-// The notifies of a full set, in queue order.
-fn unregister_ioevent(actions: &mut [u64], t: Tape, base: u64, n: u32) -> Tape
-    ensures { Played base actions.old t (notes_off base n) actions.new result }
+fn unregister_ioevent_doorbell(tape: &mut Tape, n: u32)
+    ensures { Played tape.old (bells_off tape.old.base n) tape.new }
 {
-    let mut u = t;
-    let mut i: u32 = 0;
-    while i < n {
-        u = tape::emit(&mut *actions, u, base, note_off(base, QueueIndex(i)));
-        i = i + 1;
-    }
-    u
+    let base = tape.base;
+    tell_each(tape, n, |q| tape::bell_entry(base, q).unregister());
 }
 
 fn datamatch(wildcard: bool, idx: u32) -> u64
-    ensures { result ≡ pick wildcard 0 idx }
+    ensures { result ≡ pick wildcard 0 (idx + 1) }
 {
-    if wildcard {
-        return 0;
-    }
-    idx as u64
+    if wildcard { 0 } else { u64::from(idx) + 1 }
 }
 
 fn revert_one(idx: u32, address: u64, value: u64) -> Action
     ensures { result ≡ unregister (entry idx address 8 value) }
 {
     Entry {
-        queue: idx as u64,
+        queue: u64::from(idx),
         address,
         width: 8,
         value,
@@ -179,157 +142,86 @@ fn revert_one(idx: u32, address: u64, value: u64) -> Action
 }
 
 // The undo that misses: width 8, from num - 1 down to 0.
-fn revert_ioevent(
-    actions: &mut [u64],
-    t: Tape,
-    base: u64,
-    num: u32,
-    address: u64,
-    wildcard: bool,
-) -> Tape
-    ensures { Played base actions.old t (reverts num address wildcard) actions.new result }
+fn revert_ioevent(tape: &mut Tape, num: u32, address: u64, wildcard: bool)
+    ensures { Played tape.old (reverts num address wildcard) tape.new }
 {
-    let mut u = t;
-    let mut idx = num;
-    while 0 < idx {
-        let value = datamatch(wildcard, idx);
-        idx = idx - 1;
-        u = tape::emit(&mut *actions, u, base, revert_one(idx, address, value));
+    for idx in (0..num).rev() {
+        tape.emit(revert_one(idx, address, datamatch(wildcard, idx)));
     }
-    u
-}
-
-fn unregister_ioevent_doorbell(actions: &mut [u64], t: Tape, base: u64, n: u32) -> Tape
-    ensures { Played base actions.old t (bells_off base n) actions.new result }
-{
-    let mut u = t;
-    let mut i: u32 = 0;
-    while i < n {
-        u = tape::emit(&mut *actions, u, base, bell_off(base, QueueIndex(i)));
-        i = i + 1;
-    }
-    u
 }
 
 // The records of a state reset: interrupts reset, and the notifies unregistered if a full set was accepted.
-fn wipe(actions: &mut [u64], t: Tape, base: u64, n: u32, full: bool) -> Tape
-    ensures { Played base actions.old t (wipes base n full) actions.new result }
+fn wipe(tape: &mut Tape, n: u32, full: bool)
+    ensures { Played tape.old (wipes tape.old.base n full) tape.new }
 {
-    let u = tape::emit(&mut *actions, t, base, plain(ACTION_RESET_INTERRUPTS));
+    tape.emit(plain(ACTION_RESET_INTERRUPTS));
     if full {
-        return unregister_ioevent(&mut *actions, u, base, n);
+        unregister_ioevent(tape, n);
     }
-    u
 }
 
-// Enable interrupts, then activate.
-fn begin(actions: &mut [u64], t: Tape, base: u64) -> Begun
-    ensures { Began base actions.old t actions.new result }
+// What is undone after a refusal, and the state reset. 3 and 4 are asked only once the full set was accepted.
+fn undo(tape: &mut Tape, bell: bool, n: u32, refused: Request)
+    ensures { Played tape.old (undoing tape.old.base bell n refused) tape.new }
 {
-    let a = tape::emit(&mut *actions, t, base, plain(ACTION_ENABLE_INTERRUPTS));
-    if t.left == 0 {
-        return Begun { tape: a, ok: false };
-    }
-    let b = tape::emit(&mut *actions, a, base, plain(ACTION_ACTIVATE));
-    if a.left == 0 {
-        return Begun { tape: b, ok: false };
-    }
-    Begun { tape: b, ok: true }
-}
-
-// 3 and 4, and the state reset if one is refused.
-fn conclude(actions: &mut [u64], t: Tape, base: u64, n: u32) -> Begun
-    ensures played { Played base actions.old t (asks base true n t.left lasts) actions.new result.tape }
-    ensures ok_value { result.ok ≡ starts t.left lasts }
-{
-    let b = begin(&mut *actions, t, base);
-    if b.ok {
-        return b;
-    }
-    let u = b.tape;
-    let w = wipe(&mut *actions, u, base, n, true);
-    Begun { tape: w, ok: false }
-}
-
-// What follows a doorbell refused at queue i.
-fn undo_door(actions: &mut [u64], t: Tape, base: u64, n: u32, q: QueueIndex) -> Tape
-    ensures { Played base actions.old t (after base true n (Bell q.0)) actions.new result }
-{
-    let e = tape::bell_entry(base, q);
-    let u = revert_ioevent(&mut *actions, t, base, q.0, e.address, true);
-    wipe(&mut *actions, u, base, n, false)
-}
-
-// What follows a notify refused at queue i.
-fn undo_notify(actions: &mut [u64], t: Tape, base: u64, bell: bool, n: u32, q: QueueIndex) -> Tape
-    ensures { Played base actions.old t (after base bell n (Note q.0)) actions.new result }
-{
-    let e = tape::note_entry(base, q);
-    if bell {
-        let v = unregister_ioevent_doorbell(&mut *actions, t, base, n);
-        let u = revert_ioevent(&mut *actions, v, base, q.0, e.address, false);
-        return wipe(&mut *actions, u, base, n, false);
-    }
-    let u = revert_ioevent(&mut *actions, t, base, q.0, e.address, false);
-    wipe(&mut *actions, u, base, n, false)
-}
-
-// From the refused place, or from none, to the end.
-fn finish(actions: &mut [u64], r: Tried, base: u64, bell: bool, n: u32) -> Begun
-    ensures played { Played base actions.old r.tape (follow base bell n r.tape.left lasts r.place) actions.new result.tape }
-    ensures ok_value { result.ok ≡ goes r.tape.left lasts r.place }
-{
-    let t = r.tape;
-    let p = r.place;
-    match p {
-        Place::All => conclude(&mut *actions, t, base, n),
-        Place::Door(q) => {
-            let u = undo_door(&mut *actions, t, base, n, q);
-            Begun { tape: u, ok: false }
+    let base = tape.base;
+    match refused {
+        Request::Doorbell(q) => {
+            revert_ioevent(tape, q.0, tape::bell_entry(base, q).address, true);
+            wipe(tape, n, false);
         }
-        Place::Notify(q) => {
-            let u = undo_notify(&mut *actions, t, base, bell, n, q);
-            Begun { tape: u, ok: false }
+        Request::Notify(q) => {
+            if bell {
+                unregister_ioevent_doorbell(tape, n);
+            }
+            revert_ioevent(tape, q.0, tape::note_entry(base, q).address, false);
+            wipe(tape, n, false);
         }
+        Request::Interrupts | Request::Device => wipe(tape, n, true),
     }
 }
 
 // All that an activation asks once the queues were found valid; and if a request is refused, what is undone and the records
 // of the state reset.
-fn attempt(actions: &mut [u64], t: Tape, base: u64, bell: bool, n: u32) -> Begun
-    ensures played { Played base actions.old t (asks base bell n t.left (requests bell 0 n)) actions.new result.tape }
-    ensures ok_value { result.ok ≡ starts t.left (requests bell 0 n) }
+fn attempt(tape: &mut Tape, bell: bool, n: u32) -> bool
+    ensures played { Played tape.old (asks tape.old.base bell n tape.old.left (requests bell 0 n)) tape.new }
+    ensures ok_value { result ≡ starts tape.old.left (requests bell 0 n) }
 {
-    let r = register_ioevent(&mut *actions, t, base, bell, n);
-    finish(&mut *actions, r, base, bell, n)
+    match ask_all(tape, bell, n) {
+        Ok(()) => true,
+        Err(refused) => {
+            undo(tape, bell, n, refused);
+            false
+        }
+    }
 }
 
 /// The records of an activation, and whether every request was accepted. `valid` says whether the queues may be started. A
 /// device that is started is not active, so no full set of registrations stands.
-pub fn start(actions: &mut [u64], t: Tape, base: u64, bell: bool, n: u32, valid: bool) -> Begun
-    ensures played { Played base actions.old t (start_records base bell n valid t.left) actions.new result.tape }
-    ensures ok_value { result.ok ≡ begins bell n valid t.left }
+pub fn start(tape: &mut Tape, bell: bool, n: u32, valid: bool) -> bool
+    ensures same_words { tape.new.words.ghost_name ≡ tape.old.words.ghost_name }
+    ensures played { Played tape.old (start_records tape.old.base bell n valid tape.old.left) tape.new }
+    ensures ok_value { result ≡ begins bell n valid tape.old.left }
 {
     if valid {
-        return attempt(&mut *actions, t, base, bell, n);
+        return attempt(tape, bell, n);
     }
-    let w = wipe(&mut *actions, t, base, n, false);
-    Begun { tape: w, ok: false }
+    wipe(tape, n, false);
+    false
 }
 
-/// The records of a reset: the device's own if it is active, and unless that is refused the state's.
-pub fn stop(actions: &mut [u64], t: Tape, base: u64, n: u32, full: bool, active: bool) -> Begun
-    ensures played { Played base actions.old t (stop_records base n full active t.left) actions.new result.tape }
-    ensures ok_value { result.ok ≡ stops active t.left }
+/// The records of a reset: the device's own if it is active, and unless that is refused the state's. Whether it is reset.
+pub fn stop(tape: &mut Tape, n: u32, full: bool, active: bool) -> bool
+    ensures same_words { tape.new.words.ghost_name ≡ tape.old.words.ghost_name }
+    ensures played { Played tape.old (stop_records tape.old.base n full active tape.old.left) tape.new }
+    ensures ok_value { result ≡ stops active tape.old.left }
 {
+    let accepted = !active || tape.left != 0;
     if active {
-        let a = tape::emit(&mut *actions, t, base, plain(ACTION_RESET_DEVICE));
-        if t.left == 0 {
-            return Begun { tape: a, ok: false };
-        }
-        let w = wipe(&mut *actions, a, base, n, full);
-        return Begun { tape: w, ok: true };
+        tape.emit(plain(ACTION_RESET_DEVICE));
     }
-    let w = wipe(&mut *actions, t, base, n, full);
-    Begun { tape: w, ok: true }
+    if accepted {
+        wipe(tape, n, full);
+    }
+    accepted
 }

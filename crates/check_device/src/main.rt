@@ -14,16 +14,17 @@
 ghost use Rattle.std.specs.Prelude.{◌≤◌, ◌≡◌, length};
 
 use mmio_config::{Configuration, Region};
-use mmio_tables::{Kind, Standing};
-use mmio_v2::{Answer, MmioV2Device};
+use mmio_tables::{HeldReply, Kind, Reply};
+use mmio_v2::{Answer, MadeDevice, MmioV2Device};
 use show::{dec, hex, say};
 use std::io;
-use std::io::Read;
+use tape::Entry;
 use virtq::QueueIndex;
+use words::LittleEndian;
 
 // ---- a line of the script
 
-#[derive(Clone, Copy)]
+#[derive(Clone, Copy, Default)]
 struct Line {
     verb: u8,
     hidden: bool,
@@ -37,74 +38,54 @@ struct Line {
 
 fn empty(lent: u64) -> Line {
     Line {
-        verb: 0,
-        hidden: false,
-        at: 0,
-        a: 0,
-        b: 0,
-        c: 0,
-        d: 0,
         lent,
+        ..Line::default()
     }
-}
-
-fn wide(x: u8) -> u64
-    ensures { result ≡ x }
-{
-    x as u64
 }
 
 // A number with one more digit behind it, if it is a digit.
 fn push(n: u64, c: u8) -> u64 {
     let high = n % 0x1000_0000_0000_0000 * 16;
     match c {
-        b'0'..=b'9' => high + (wide(c) - 48),
-        b'a'..=b'f' => high + (wide(c) - 87),
+        b'0'..=b'9' => high + u64::from(c - b'0'),
+        b'a'..=b'f' => high + u64::from(c - b'a') + 10,
         _ => n,
     }
 }
 
-fn digit(l: Line, c: u8) -> Line {
-    let mut u = l;
-    let at = l.at;
-    match at {
-        0 => u.verb = first(l.verb, c),
-        1 => u.a = push(l.a, c),
-        2 => u.b = push(l.b, c),
-        3 => u.c = push(l.c, c),
-        _ => u.d = push(l.d, c),
+// The first letter is the verb; what follows it up to a blank is not read.
+fn digit(mut l: Line, c: u8) -> Line {
+    match l.at {
+        0 if l.verb == 0 => l.verb = c,
+        0 => {}
+        1 => l.a = push(l.a, c),
+        2 => l.b = push(l.b, c),
+        3 => l.c = push(l.c, c),
+        _ => l.d = push(l.d, c),
     }
-    u
-}
-
-fn first(verb: u8, c: u8) -> u8 {
-    if verb == 0 {
-        return c;
-    }
-    verb
+    l
 }
 
 // The line with one more byte.
 fn feed(l: Line, c: u8) -> Line {
-    let mut u = l;
     match c {
-        b' ' => u.at = l.at % 8 + 1,
-        b'|' => {
-            u.verb = 0;
-            u.at = 0;
-            u.hidden = true;
-        }
-        _ => u = digit(l, c),
+        b' ' => Line {
+            at: l.at % 8 + 1,
+            ..l
+        },
+        b'|' => Line {
+            verb: 0,
+            at: 0,
+            hidden: true,
+            ..l
+        },
+        _ => digit(l, c),
     }
-    u
 }
 
 // The line after this one.
 fn next(l: Line) -> Line {
-    if l.verb == b'l' {
-        return empty(l.a);
-    }
-    empty(l.lent)
+    empty(if l.verb == b'l' { l.a } else { l.lent })
 }
 
 // ---- the configuration
@@ -136,61 +117,51 @@ fn plain() -> Configuration {
         sizes: [256u16; 16],
         regions: 0,
         list: 0,
-        table: [Region {
-            offset: 0,
-            length: 0,
-        }; 8],
+        table: [Region::default(); 8],
     }
 }
 
-fn with_sizes(c: Configuration, l: Line) -> Configuration {
-    let mut u = c;
-    let at = (l.a % 16) as usize;
-    u.sizes[at] = low16(l.b);
-    u
+fn with_sizes(mut c: Configuration, l: Line) -> Configuration {
+    c.sizes[(l.a % 16) as usize] = low16(l.b);
+    c
 }
 
-fn with_region(c: Configuration, l: Line) -> Configuration {
-    let mut u = c;
-    let at = (l.a % 8) as usize;
-    u.table[at] = Region {
+fn with_region(mut c: Configuration, l: Line) -> Configuration {
+    c.table[(l.a % 8) as usize] = Region {
         offset: l.b,
         length: l.c,
     };
-    u
+    c
 }
 
-fn set(c: Configuration, l: Line) -> Configuration {
-    let mut u = c;
-    let verb = l.verb;
-    match verb {
-        b'B' => u.base = l.a,
-        b'W' => u.size = l.a,
-        b'G' => u.memory = l.a,
-        b'T' => u.kind = low32(l.a),
-        b'M' => u.msi = l.a != 0,
-        b'V' => u.vectors = low32(l.a),
-        b'D' => u.dataqueues = low32(l.a),
-        b'C' => u.control = low32(l.a),
-        b'R' => u.regions = low32(l.a),
-        b'L' => u.list = l.a,
+fn set(mut c: Configuration, l: Line) -> Configuration {
+    match l.verb {
+        b'B' => c.base = l.a,
+        b'W' => c.size = l.a,
+        b'G' => c.memory = l.a,
+        b'T' => c.kind = low32(l.a),
+        b'M' => c.msi = l.a != 0,
+        b'V' => c.vectors = low32(l.a),
+        b'D' => c.dataqueues = low32(l.a),
+        b'C' => c.control = low32(l.a),
+        b'R' => c.regions = low32(l.a),
+        b'L' => c.list = l.a,
         b'P' => {
-            u.page0 = low32(l.a);
-            u.page1 = low32(l.b);
+            c.page0 = low32(l.a);
+            c.page1 = low32(l.b);
         }
         b'F' => {
-            u.given = l.a != 0;
-            u.features = low32(l.b);
-            u.wildcard = l.c != 0;
+            c.given = l.a != 0;
+            c.features = low32(l.b);
+            c.wildcard = l.c != 0;
         }
         _ => {}
     }
-    u
+    c
 }
 
 fn configure(c: Configuration, l: Line) -> Configuration {
-    let verb = l.verb;
-    match verb {
+    match l.verb {
         b'S' => with_sizes(c, l),
         b'O' => with_region(c, l),
         b'N' => plain(),
@@ -203,10 +174,7 @@ fn configure(c: Configuration, l: Line) -> Configuration {
 fn at_most(n: u64, limit: usize) -> usize
     ensures { result ≤ limit }
 {
-    if n < limit as u64 {
-        return n as usize;
-    }
-    limit
+    if n < limit as u64 { n as usize } else { limit }
 }
 
 // What is lent for a reply is full of 0xee; what is written is the value, low byte first.
@@ -215,14 +183,13 @@ fn filled(l: Line) -> [u8; 8]
 {
     let mut b = [0xeeu8; 8];
     if l.verb == b'w' {
-        words::write_u64(&mut b, l.c);
+        l.c.write(&mut b);
     }
     b
 }
 
 fn ask(d: MmioV2Device, l: Line, k: u32, bytes: &mut [u8], words: &mut [u64]) -> Answer {
-    let verb = l.verb;
-    match verb {
+    match l.verb {
         b'w' => d.write(k, l.a, bytes, words),
         b'r' => d.read(k, l.a, bytes, words),
         _ => d.raise(low32(l.a), words),
@@ -257,46 +224,40 @@ fn operate(rt: &impl Print, d: MmioV2Device, l: Line) -> io::Result<MmioV2Device
 
 // ---- a question
 
-fn standing(rt: &impl Print, e: Standing) -> io::Result<()> {
-    if e.stands {
-        return show::four(
-            rt,
-            e.entry.queue,
-            e.entry.address,
-            e.entry.width,
-            e.entry.value,
-        );
+fn standing(rt: &impl Print, e: HeldReply) -> io::Result<()> {
+    if !e.stands {
+        say(rt, b" none")?;
+        if e.refusal == 0 {
+            return Ok(());
+        }
+        dec(rt, u64::from(e.refusal))?;
     }
-    say(rt, b" none")?;
-    if e.refusal != 0 {
-        dec(rt, e.refusal as u64)?;
-        show::four(
-            rt,
-            e.entry.queue,
-            e.entry.address,
-            e.entry.width,
-            e.entry.value,
-        )?;
-    }
-    Ok(())
+    let Entry {
+        queue,
+        address,
+        width,
+        value,
+    } = e.entry;
+    show::four(rt, queue, address, width, value)
 }
 
 fn held(rt: &impl Print, d: MmioV2Device, q: u32) -> io::Result<()> {
     say(rt, b" doorbell")?;
-    standing(rt, d.held_entry(QueueIndex(q), Kind::Doorbell))?;
+    standing(rt, d.held_entry(QueueIndex(q), Kind::Doorbell).into())?;
     say(rt, b", notify")?;
-    standing(rt, d.held_entry(QueueIndex(q), Kind::Notify))
+    standing(rt, d.held_entry(QueueIndex(q), Kind::Notify).into())
 }
 
 fn question(rt: &impl Print, d: MmioV2Device, l: Line) -> io::Result<()> {
-    let r = d.field(QueueIndex(low32(l.a)), virtq::field_numbered(low32(l.b)));
-    dec(rt, r.refusal as u64)?;
-    hex(rt, r.value as u64)
+    let f = virtq::field_numbered(low32(l.b));
+    let r = Reply::from(d.field(QueueIndex(low32(l.a)), f));
+    dec(rt, u64::from(r.refusal))?;
+    hex(rt, u64::from(r.value))
 }
 
 fn made(rt: &impl Print, c: Configuration) -> io::Result<MmioV2Device> {
-    let m = MmioV2Device::new(c);
-    dec(rt, m.refusal as u64)?;
+    let m = MadeDevice::from(MmioV2Device::new(c));
+    dec(rt, u64::from(m.refusal))?;
     Ok(m.device)
 }
 
@@ -306,8 +267,7 @@ fn perform(
     c: Configuration,
     l: Line,
 ) -> io::Result<MmioV2Device> {
-    let verb = l.verb;
-    match verb {
+    match l.verb {
         b'w' | b'r' | b'i' => operate(rt, d, l),
         b'n' => made(rt, c),
         b'h' => {
@@ -325,19 +285,14 @@ fn perform(
 // ---- the script
 
 fn echo(rt: &impl Print, c: u8, hidden: bool) -> io::Result<()> {
-    if hidden {
-        return Ok(());
-    }
-    let text = [c];
-    say(rt, &text)
+    if hidden { Ok(()) } else { say(rt, &[c]) }
 }
 
 fn run(rt: &impl Print, text: &[u8]) -> io::Result<()> {
     let mut c = plain();
-    let mut d = MmioV2Device::new(c).device;
+    let mut d = MmioV2Device::new(c).unwrap_or_default();
     let mut l = empty(320);
-    for b in text {
-        let b = *b;
+    for &b in text {
         if b == b'\n' {
             d = perform(rt, d, c, l)?;
             c = configure(c, l);
@@ -353,22 +308,8 @@ fn run(rt: &impl Print, text: &[u8]) -> io::Result<()> {
 // The most that is read of a script.
 const SCRIPT_ROOM: usize = 65536;
 
-// Reads until the space is full, the input ends or a read fails, and answers how many bytes stand at its start.
-fn read_full(from: &mut impl Read, space: &mut [u8]) -> usize
-    ensures { result ≤ length space.new }
-{
-    let mut done = 0;
-    while done < space.len() {
-        match from.read(&mut space[done..]) {
-            Ok(n) if 0 < n => done += n,
-            _ => break,
-        }
-    }
-    done
-}
-
 fn main(rt: HostRuntime) -> io::Result<()> {
     let mut space = [0u8; SCRIPT_ROOM];
-    let n = read_full(&mut rt.stdin(), &mut space);
+    let n = show::read_full(&mut rt.stdin(), &mut space);
     run(&rt, &space[..n])
 }

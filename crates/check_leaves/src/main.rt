@@ -7,8 +7,8 @@ use msi::Msi;
 use registers::{ReadRegister, WriteRegister};
 use show::{dec, flag, hex, say};
 use std::io;
-use virtq::{Field, Memory, Queue, QueueIndex, Scan};
-use words::Action;
+use virtq::{Field, Memory, Queue, QueueIndex};
+use words::{Action, LittleEndian};
 
 fn size(rt: &impl Print, max: u16, v: u32) -> io::Result<()> {
     let q = Queue::fresh(max).update(max, Field::Size, v);
@@ -105,8 +105,8 @@ fn scan(rt: &impl Print, first: usize, second: usize, n: usize) -> io::Result<()
         queues[second] = Queue::fresh(256);
     }
     match virtq::first_invalid(queues, n, Memory { length: 0x4000 }) {
-        Scan::All => say(rt, b" none"),
-        Scan::At(q) => dec(rt, q.0 as u64),
+        None => say(rt, b" none"),
+        Some(q) => dec(rt, u64::from(q.0)),
     }
 }
 
@@ -157,18 +157,12 @@ fn regions(rt: &impl Print) -> io::Result<()> {
     region(rt, 0x1234_0000, 0x5_0000_5678)
 }
 
-fn vendor(
-    rt: &impl Print,
-    msi: bool,
-    given: bool,
-    features: u32,
-    wildcard: bool,
-) -> io::Result<()> {
+fn vendor(rt: &impl Print, msi: bool, features: Option<u32>, wildcard: bool) -> io::Result<()> {
     hex(
         rt,
-        dragonball::device_vendor(msi, given, features, wildcard) as u64,
+        dragonball::device_vendor(msi, features, wildcard) as u64,
     )?;
-    flag(rt, dragonball::doorbell_enabled(given, features, wildcard))
+    flag(rt, dragonball::doorbell_enabled(features, wildcard))
 }
 
 fn vendors(rt: &impl Print) -> io::Result<()> {
@@ -176,12 +170,12 @@ fn vendors(rt: &impl Print) -> io::Result<()> {
         rt,
         b"\nvendor and doorbell, nothing given; MSI; features 0x1ff with wildcard, without; MSI and bit 1; 0xfb:",
     )?;
-    vendor(rt, false, false, 0xffff_ffff, true)?;
-    vendor(rt, true, false, 0, false)?;
-    vendor(rt, false, true, 0x1ff, true)?;
-    vendor(rt, false, true, 0x1ff, false)?;
-    vendor(rt, true, true, 2, false)?;
-    vendor(rt, false, true, 0xfb, true)
+    vendor(rt, false, None, true)?;
+    vendor(rt, true, None, false)?;
+    vendor(rt, false, Some(0x1ff), true)?;
+    vendor(rt, false, Some(0x1ff), false)?;
+    vendor(rt, true, Some(2), false)?;
+    vendor(rt, false, Some(0xfb), true)
 }
 
 fn doorbell(rt: &impl Print, offset: u32, scale: u32, q: u32) -> io::Result<()> {
@@ -352,46 +346,42 @@ fn writes(rt: &impl Print) -> io::Result<()> {
     write(rt, 0x1030, 4)
 }
 
-fn wide(b: u8) -> u64 {
-    b as u64
-}
-
 fn bytes(rt: &impl Print) -> io::Result<()> {
     say(
         rt,
         b"\neight bytes written, read as 8, 4, 2; the ninth; then four and two over them:",
     )?;
     let mut b = [0xeeu8; 9];
-    words::write_u64(&mut b, 0x1122_3344_5566_7788);
-    hex(rt, words::read_u64(&b))?;
-    hex(rt, words::read_u32(&b) as u64)?;
-    hex(rt, words::read_u16(&b) as u64)?;
-    hex(rt, wide(b[8]))?;
-    words::write_u32(&mut b, 0x0102_0304);
-    words::write_u16(&mut b, 0xabcd);
-    hex(rt, words::read_u64(&b))
+    0x1122_3344_5566_7788u64.write(&mut b);
+    hex(rt, u64::read(&b))?;
+    hex(rt, u32::read(&b) as u64)?;
+    hex(rt, u16::read(&b) as u64)?;
+    hex(rt, u64::from(b[8]))?;
+    0x0102_0304u32.write(&mut b);
+    0xabcdu16.write(&mut b);
+    hex(rt, u64::read(&b))
 }
 
 fn short_reads(rt: &impl Print) -> io::Result<()> {
     say(rt, b"\n7 bytes read as 8, 3 as 4, 1 as 2, none as 2:")?;
     let b = [1u8, 2, 3, 4, 5, 6, 7, 8];
-    hex(rt, words::read_u64(&b[1..]))?;
-    hex(rt, words::read_u32(&b[5..]) as u64)?;
-    hex(rt, words::read_u16(&b[7..]) as u64)?;
-    hex(rt, words::read_u16(&b[8..]) as u64)
+    hex(rt, u64::read(&b[1..]))?;
+    hex(rt, u32::read(&b[5..]) as u64)?;
+    hex(rt, u16::read(&b[7..]) as u64)?;
+    hex(rt, u16::read(&b[8..]) as u64)
 }
 
 fn short_writes(rt: &impl Print) -> io::Result<()> {
     say(rt, b"\n8 bytes written to 7, 4 to 3, 2 to 1:")?;
     let mut seven = [0x11u8; 7];
-    words::write_u64(&mut seven, 0xffff_ffff_ffff_ffff);
-    hex(rt, words::read_u32(&seven) as u64)?;
+    0xffff_ffff_ffff_ffffu64.write(&mut seven);
+    hex(rt, u32::read(&seven) as u64)?;
     let mut three = [0x11u8; 3];
-    words::write_u32(&mut three, 0xffff_ffff);
-    hex(rt, words::read_u16(&three) as u64)?;
+    0xffff_ffffu32.write(&mut three);
+    hex(rt, u16::read(&three) as u64)?;
     let mut one = [0x11u8; 1];
-    words::write_u16(&mut one, 0xffff);
-    hex(rt, wide(one[0]))
+    0xffffu16.write(&mut one);
+    hex(rt, u64::from(one[0]))
 }
 
 fn action(kind: u64) -> Action {

@@ -8,6 +8,7 @@ use mmio_tables::Kind;
 use show::{dec, flag, hex, records, say};
 use std::io;
 use virtq::{Field, Queue, QueueIndex};
+use words::Refusal;
 
 // Some data queues of 256 with a doorbell, four vectors, no regions, memory up to 0x10000.
 fn configuration(dataqueues: u32, control: u32) -> Configuration {
@@ -28,10 +29,7 @@ fn configuration(dataqueues: u32, control: u32) -> Configuration {
         sizes: [256u16; 16],
         regions: 0,
         list: 0,
-        table: [Region {
-            offset: 0,
-            length: 0,
-        }; 8],
+        table: [Region::default(); 8],
     }
 }
 
@@ -44,8 +42,7 @@ fn ready() -> Queue {
 }
 
 fn fresh(dataqueues: u32, control: u32) -> MmioV2DeviceState {
-    let m = MmioV2DeviceState::new(configuration(dataqueues, control));
-    m.state
+    MmioV2DeviceState::new(configuration(dataqueues, control)).unwrap_or_default()
 }
 
 // A fresh state whose queues are all laid out.
@@ -57,17 +54,33 @@ fn laid_out(dataqueues: u32) -> MmioV2DeviceState {
 }
 
 fn stands(rt: &impl Print, s: MmioV2DeviceState, q: u32) -> io::Result<()> {
-    flag(rt, s.held_entry(QueueIndex(q), Kind::Doorbell).stands)?;
-    flag(rt, s.held_entry(QueueIndex(q), Kind::Notify).stands)
+    for k in [Kind::Doorbell, Kind::Notify] {
+        flag(rt, s.held_entry(QueueIndex(q), k).is_ok_and(|e| e.stands))?;
+    }
+    Ok(())
 }
 
-fn outcome(rt: &impl Print, d: Done) -> io::Result<()> {
+// The number of a refusal, 0 for none.
+fn refusal(came: Result<Done, Refusal>) -> u64 {
+    came.map_or_else(|e| u64::from(e.number()), |_| 0)
+}
+
+// What came of an operation; a refusal leaves the state.
+fn done(s: MmioV2DeviceState, came: Result<Done, Refusal>) -> Done {
+    came.unwrap_or(Done {
+        state: s,
+        ok: false,
+        count: 0,
+    })
+}
+
+fn outcome(rt: &impl Print, refused: u64, d: Done) -> io::Result<()> {
     let s = d.state;
     say(
         rt,
         b"\n  refusal, started, records, active, doorbell setting:",
     )?;
-    dec(rt, d.refusal as u64)?;
+    dec(rt, refused)?;
     flag(rt, d.ok)?;
     dec(rt, d.count as u64)?;
     flag(rt, s.flags.active)?;
@@ -80,9 +93,10 @@ fn outcome(rt: &impl Print, d: Done) -> io::Result<()> {
 fn start(rt: &impl Print, label: &[u8], s: MmioV2DeviceState, k: u32) -> io::Result<()> {
     say(rt, label)?;
     let mut words = [0xeu64; 320];
-    let d = s.activate(k, &mut words);
+    let came = s.activate(k, &mut words);
+    let d = done(s, came);
     records(rt, &words, d.count)?;
-    outcome(rt, d)
+    outcome(rt, refusal(came), d)
 }
 
 fn short_space(rt: &impl Print) -> io::Result<()> {
@@ -92,23 +106,19 @@ fn short_space(rt: &impl Print) -> io::Result<()> {
     )?;
     let mut words = [0xeu64; 319];
     let s = laid_out(2);
-    dec(rt, s.activate(9, &mut words).refusal as u64)?;
-    dec(rt, s.reset(9, &mut words).refusal as u64)?;
-    dec(
-        rt,
-        mmio_msi::handle_msi_cmd(s, 0x1000, 9, &mut words).refusal as u64,
-    )?;
-    dec(
-        rt,
-        mmio_msi::update_msi_enable(s, 0x8000, 9, &mut words).refusal as u64,
-    )?;
+    dec(rt, refusal(s.activate(9, &mut words)))?;
+    dec(rt, refusal(s.reset(9, &mut words)))?;
+    let command = mmio_msi::handle_msi_cmd(s, 0x1000, 9, &mut words);
+    dec(rt, refusal(command))?;
+    let control = mmio_msi::update_msi_enable(s, 0x8000, 9, &mut words);
+    dec(rt, refusal(control))?;
     hex(rt, words[0])
 }
 
 // A command to a device of two data queues, with MSI on or off and started or not; what it asks, and what comes of it.
 fn command(rt: &impl Print, s: MmioV2DeviceState, v: u16, k: u32) -> io::Result<()> {
     let mut words = [0xeu64; 320];
-    let d = mmio_msi::handle_msi_cmd(s, v, k, &mut words);
+    let d = done(s, mmio_msi::handle_msi_cmd(s, v, k, &mut words));
     let u = d.state;
     dec(rt, d.count as u64)?;
     hex(rt, words[0])?;
@@ -119,7 +129,7 @@ fn command(rt: &impl Print, s: MmioV2DeviceState, v: u16, k: u32) -> io::Result<
 // MSI turned on with one answer, and a message staged.
 fn messaging(rt: &impl Print, s: MmioV2DeviceState) -> io::Result<MmioV2DeviceState> {
     let mut words = [0xeu64; 320];
-    let d = mmio_msi::update_msi_enable(s, 0x8000, 1, &mut words);
+    let d = done(s, mmio_msi::update_msi_enable(s, 0x8000, 1, &mut words));
     hex(rt, words[1])?;
     Ok(mmio_msi::set_msi_data(d.state, 7))
 }
@@ -130,7 +140,8 @@ fn running_commands(rt: &impl Print) -> io::Result<()> {
         b"\nstarted: mode asked; 0x1002, refused; mask 3, refused; mask 4; unmask 3:",
     )?;
     let mut words = [0xeu64; 320];
-    let s = messaging(rt, laid_out(2))?.activate(9, &mut words).state;
+    let on = messaging(rt, laid_out(2))?;
+    let s = done(on, on.activate(9, &mut words)).state;
     command(rt, s, 0x1002, 1)?;
     command(rt, s, 0x1002, 0)?;
     command(rt, s, 0x2003, 1)?;
@@ -142,8 +153,7 @@ fn running_commands(rt: &impl Print) -> io::Result<()> {
 // The data stored in vector i once the command was written.
 fn stored(rt: &impl Print, s: MmioV2DeviceState, v: u16, i: usize) -> io::Result<()> {
     let mut words = [0xeu64; 320];
-    let d = mmio_msi::handle_msi_cmd(s, v, 9, &mut words);
-    let u = d.state;
+    let u = done(s, mmio_msi::handle_msi_cmd(s, v, 9, &mut words)).state;
     if i < 32 {
         let vector = u.vectors[i];
         hex(rt, vector.message as u64)?;
@@ -163,9 +173,9 @@ fn messages(rt: &impl Print, s: MmioV2DeviceState) -> io::Result<()> {
 // MSI turned off with k answers once vector 2 has a message.
 fn turned_off(rt: &impl Print, s: MmioV2DeviceState, k: u32) -> io::Result<()> {
     let mut words = [0xeu64; 320];
-    let on = mmio_msi::handle_msi_cmd(s, 0x1002, 9, &mut words);
-    let off = mmio_msi::update_msi_enable(on.state, 0x7fff, k, &mut words);
-    messages(rt, off.state)
+    let on = done(s, mmio_msi::handle_msi_cmd(s, 0x1002, 9, &mut words)).state;
+    let off = done(on, mmio_msi::update_msi_enable(on, 0x7fff, k, &mut words)).state;
+    messages(rt, off)
 }
 
 fn modes(rt: &impl Print) -> io::Result<()> {

@@ -4,12 +4,12 @@ use mathlib.Core.Path.{◌≡◌, refl, ap, sym, ◌∙◌}
 use mathlib.Core.List.{List, ◌∷◌, ◌++◌}
 use Prim.Native.Nat.{ℕ, zero, suc, ◌+◌, ◌*◌, ◌-◌, ◌≤◌, ◌<◌}
 use native.Mathlib.Omega.{arith}
-use borrow.Author.Tests.{eqb-true, eqb-false, ltb-true, lt-ltb}
-use lib.Dec.{eqb, ltb}
+use borrow.Author.Tests.{eqb-true, eqb-false}
+use lib.Dec.{eqb}
 use lib.ListN.{length}
-use Rattle.words.specs.Actions.{Emitted}
-use Rattle.words.proofs.Actions.{still, then, worded, long}
-use Rattle.words.proofs.Picks.{pick-both}
+use Rattle.text.specs.Page.{Prints, has_room}
+use Rattle.text.specs.declared.Page.{Page}
+use Rattle.text.proofs.Pages.{still, then, worded, within}
 use Rattle.mmio_state.specs.State.{State}
 use Rattle.mmio_v2.specs.Fresh.{device}
 use Rattle.mmio_v2.specs.Operation.{Operation}
@@ -20,9 +20,9 @@ use Rattle.history.specs.Run.{next}
 use Rattle.trace.specs.Verdict.{count}
 use Rattle.play.specs.Log.{operation_at, log_from}
 use Rattle.play.specs.Text.{outcome_text, log_text}
-use Rattle.play.specs.Play.{roomy}
+use Rattle.play.specs.Play.{Ran}
 use Rattle.play.specs.declared.Show.{Show}
-use Rattle.desk.specs.Desk.{room_before, Parted, goes_on, Advanced}
+use Rattle.desk.specs.Desk.{room_before, Parted}
 use Rattle.desk.specs.declared.Part.{Part}
 
 pub length-log : (s : List ℕ) (i m : ℕ) → length (log_from s i m) ≡ m
@@ -39,80 +39,63 @@ log-more s i j h =
     ap (log_from s i) m ∙ ap (λ (x : ℕ). operation_at s x ∷ log_from s i (j - i)) k
 
 -- records from record i on and before those that u has come to are told
-pub record Going (o : Show) (s : List ℕ) (d : State) (i : ℕ) (l : List ℕ) (at : ℕ) (l' : List ℕ) (u : Part) : Type 0 where
+pub record Going (o : Show) (s : List ℕ) (d : State) (i : ℕ) (old new : Page) (u : Part) : Type 0 where
   pub from : i ≤ u.next
   pub upto : u.next ≤ count s
   pub state : u.device ≡ device (run_from next d (log_from s i (u.next - i)))
-  pub text : Emitted l at (log_text o d i (log_from s i (u.next - i))) l' u.at
-  pub small : u.at ≤ at + 10304 * (u.next - i)
-  pub had-room : (k : ℕ) → i ≤ k → k < u.next → room_before o s d i (length l) at k ≡ true
+  pub text : Prints (10304 * (u.next - i)) old (log_text o d i (log_from s i (u.next - i))) new
+  pub had-room : (k : ℕ) → i ≤ k → k < u.next → room_before o s d i (length old.out.now) old.at k ≡ true
 
-pub going-first : (o : Show) (s : List ℕ) (l : List ℕ) (t : Part) → t.next ≤ count s → Going o s t.device.state t.next l t.at l t
+pub going-first : (o : Show) (s : List ℕ) (p : Page) (t : Part) → t.next ≤ count s → Going o s t.device.state t.next p p t
 unfolding log_from log_text
-going-first o s l t h =
+going-first o s p t h =
     let z : t.next - t.next ≡ 0 = omega arith in
     record {
       from = omega arith;
       upto = h;
       state = rw z;
-      text = rw z (still l t.at);
-      small = omega arith;
+      text = rw z (still 0 p);
       had-room = λ k a b. absurd (none k a b);
     }
   where
     none : (k : ℕ) → t.next ≤ k → k < t.next → ⊥
     none k a b = omega arith
 
-pub goes-on : (i n len at : ℕ) → goes_on i n len at ≡ true → (i < n) × (roomy len at ≡ true)
-unfolding goes_on
-goes-on i n len at e = let p = pick-both (ltb i n) (roomy len at) e in (ltb-true i n p.0, p.1)
-
-module _ {o : Show} {s : List ℕ} {d : State} {i : ℕ} {l : List ℕ} {at : ℕ} {l' : List ℕ} {u : Part} (g : Going o s d i l at l' u) where
+module _ {o : Show} {s : List ℕ} {d : State} {i : ℕ} {p q : Page} {u : Part} (g : Going o s d i p q u) where
   -- the room that the code sees is that before the next record
-  here : (t : Bool) → roomy (length l') u.at ≡ t → room_before o s d i (length l) at u.next ≡ t
-  here t q = rw (sym (long g.text), sym g.text.moved) q
+  here : (t : Bool) → has_room 10304 q ≡ t → room_before o s d i (length p.out.now) p.at u.next ≡ t
+  here t e = rw (sym g.text.long, sym g.text.text.moved) e
 
-  pub going_more : {l'' : List ℕ} {r : Part} (n : ℕ) → n ≡ count s → goes_on u.next n (length l') u.at ≡ true → Advanced o s u l' l'' r → Going o s d i l at l'' r
+  pub going_more : {q' : Page} {e : MmioV2Device} → u.next < count s → has_room 10304 q ≡ true
+      → Ran o (u.next + 1) u.device.state (operation_at s u.next) q q' e → Going o s d i p q' (record { device = e; next = u.next + 1 })
   unfolding log_text
-  going_more {l''} {r} n c on x =
-      let p = goes-on u.next n (length l') u.at on in
-      let m : log_from s i (r.next - i) ≡ operation_at s u.next ∷ log_from s i (u.next - i) = ap (λ (k : ℕ). log_from s i (k - i)) x.moved ∙ log-more s i u.next g.from in
+  going_more {e = e} less room x =
+      let m : log_from s i (u.next + 1 - i) ≡ operation_at s u.next ∷ log_from s i (u.next - i) = log-more s i u.next g.from in
       let log = log_from s i (u.next - i) in
       let k : u.next + 1 ≡ i + length log + 1 = omega (arith, length-log s i (u.next - i), g.from) in
       let st : u.device.state ≡ run_from next d log = ap (λ (v : MmioV2Device). v.state) g.state in
       record {
-        from = omega (arith, g.from, x.moved);
-        upto = omega (arith, x.moved, p.0, c);
-        state = x.state ∙ ap (λ (v : State). device (next v (operation_at s u.next))) st ∙ sym (ap (λ (y : List Operation). device (run_from next d y)) m);
+        from = omega (arith, g.from);
+        upto = omega arith;
+        state = x.device-is ∙ ap (λ (v : State). device (next v (operation_at s u.next))) st ∙ sym (ap (λ (y : List Operation). device (run_from next d y)) m);
         text =
-            worded (then g.text x.text)
+            within
+            (worded (then g.text x.text)
             (ap (λ (v : State). log_text o d i log ++ outcome_text o (u.next + 1) (operated v (operation_at s u.next))) st
             ∙ ap (λ (j : ℕ). log_text o d i log ++ outcome_text o j (operated (run_from next d log) (operation_at s u.next))) k
-            ∙ sym (ap (log_text o d i) m));
-        small = omega (arith, g.small, x.small, x.moved, g.from);
-        had-room = λ j a b. earlier j a (omega (arith, x.moved)) p.1 (eqb j u.next) refl;
+            ∙ sym (ap (log_text o d i) m)))
+            (omega (arith, g.from));
+        had-room = λ j a b. earlier j a (omega arith) (eqb j u.next) refl;
       }
     where
-      earlier : (j : ℕ) → i ≤ j → j < u.next + 1 → roomy (length l') u.at ≡ true → (t : Bool) → eqb j u.next ≡ t → room_before o s d i (length l) at j ≡ true
-      earlier j a b room true q = rw (eqb-true j u.next q) (here true room)
-      earlier j a b room false q = g.had-room j a (before (eqb-false j u.next q))
+      earlier : (j : ℕ) → i ≤ j → j < u.next + 1 → (t : Bool) → eqb j u.next ≡ t → room_before o s d i (length p.out.now) p.at j ≡ true
+      earlier j a b true q = rw (eqb-true j u.next q) (here true room)
+      earlier j a b false q = g.had-room j a (before (eqb-false j u.next q))
         where
           before : (j ≡ u.next → ⊥) → j < u.next
           before z = omega arith
 
   -- the loop has ended: there is no record more, or no room
-  pub going-last : (n : ℕ) → n ≡ count s → goes_on u.next n (length l') u.at ≡ false → Parted o s d i l at l' u
-  unfolding goes_on
-  going-last n c off =
-      record {
-        from = g.from;
-        upto = g.upto;
-        state = g.state;
-        text = g.text;
-        small = g.small;
-        had-room = g.had-room;
-        full = λ z. here false (rw (lt-ltb u.next n (less z g.upto c)) at off);
-      }
-    where
-      less : (u.next ≡ count s → ⊥) → u.next ≤ count s → n ≡ count s → u.next < n
-      less z h e = omega arith
+  pub going-last : ((u.next ≡ count s → ⊥) → has_room 10304 q ≡ false) → Parted o s d i p q u
+  going-last off =
+      record { from = g.from; upto = g.upto; state = g.state; text = g.text; had-room = g.had-room; full = λ z. here false (off z) }

@@ -12,9 +12,12 @@ use Rattle.trace.specs.Form.{pool_place}
 use Rattle.trace.specs.Records.{kind_good, data_good, judged}
 use Rattle.trace.specs.Verdict.{count, pool_length, record_of, Good, next_at}
 use Rattle.trace.specs.declared.Record.{Record}
-use Rattle.trace.specs.declared.Next.{Next}
-use Rattle.trace.specs.declared.Next.TheVariants.{End, Bad, One}
-use Rattle.trace.proofs.Judging.{laid-few, laid-whole, next_one}
+use Rattle.std.specs.Prelude.{Option, Some, None, Result, Ok, Err}
+use Rattle.words.specs.declared.Refusal.{Refusal}
+use Rattle.words.specs.Refusals.{numbered}
+use Rattle.trace.proofs.Judging.{laid_few, laid-whole, next_one}
+use Rattle.play.specs.Play.{runs}
+use Rattle.play.proofs.Running.{runs-yes}
 use Rattle.play.specs.Log.{operation_of, may_run, operation_at}
 
 zero_one : {n : ℕ} → n ≡ 0 → 0 < n → ⊥
@@ -39,7 +42,6 @@ module _ (r : Record) (pool : ℕ) (e : judged r pool ≡ 0) where
       go false u v w q p = absurd (true≢false (sym p))
 
   pub good-may : may_run r ≡ true
-  unfolding may_run
   good-may = rw both.0 (le-leb r.len 4096 short.0)
 
   pub good-within : r.kind ≡ 2 → r.start + r.len ≤ pool
@@ -47,31 +49,30 @@ module _ (r : Record) (pool : ℕ) (e : judged r pool ≡ 0) where
 
 -- ---- at a place of a good trace
 
-abbrev record_in : Record → Next → Record
-record_in z End = z
-record_in z (Bad n) = z
-record_in z (One r) = r
-
-abbrev is_one : Next → Bool
-is_one End = false
-is_one (Bad n) = false
-is_one (One r) = true
+abbrev record_in : Record → Result (Option Record) ℕ → Record
+record_in z (Ok None) = z
+record_in z (Ok (Some r)) = r
+record_in z (Err n) = z
 
 module _ (s : List ℕ) (g : Good s) (i : ℕ) (h : i < count s) where
-  there : One (record_of s i) ≡ next_at s i
+  there : Ok (Some (record_of s i)) ≡ next_at s i
   there = next_one s i g.layout h (g.records i h)
 
-  pub is-record : (r : Record) → next_at s i ≡ One r → r ≡ record_of s i
-  is-record r e = sym (ap (record_in r) (there ∙ e))
+  pub is-record : (r : Record) (x : Result (Option Record) Refusal) → numbered x ≡ next_at s i → x ≡ Ok (Some r) → r ≡ record_of s i
+  is-record r x n e = ap (record_in r) (sym (ap numbered e) ∙ n ∙ sym there)
 
-  pub not_end : next_at s i ≡ End → ⊥
-  not_end e = true≢false (ap is_one (there ∙ e))
-
-  pub not-bad : (n : ℕ) → next_at s i ≡ Bad n → ⊥
-  not-bad n e = true≢false (ap is_one (there ∙ e))
+  -- it is no other answer
+  pub no-other : (x : Result (Option Record) Refusal) → numbered x ≡ next_at s i → ((r : Record) → x ≡ Ok (Some r) → ⊥) → ⊥
+  no-other (Ok (Some r)) n f = f r refl
+  no-other (Ok None) n f = let e : ◌≡◌ {A = Result (Option Record) ℕ} (Ok None) (Ok (Some (record_of s i))) = n ∙ sym there in cc
+  no-other (Err e) n f = let e : ◌≡◌ {A = Result (Option Record) ℕ} (numbered (Err e)) (Ok (Some (record_of s i))) = n ∙ sym there in cc
 
   pub is-good : (r : Record) → r ≡ record_of s i → may_run r ≡ true
   is-good r e = rw e (good-may (record_of s i) (pool_length s) (g.records i h))
+
+  -- where there is room for it, it runs
+  pub runs-here : (r : Record) → r ≡ record_of s i → (len at : ℕ) → at + 10304 ≤ len → runs r len at ≡ true
+  runs-here r e len at room = runs-yes r len at (is-good r e) room
 
   -- a write's bytes: from its start in the pool on, and not past the end
   pub inside : (r : Record) (n a : ℕ) → r ≡ record_of s i → n ≡ count s → r.kind ≡ 2 → a ≡ 264 + 24 * n + r.start → a + r.len ≤ length s
@@ -83,7 +84,7 @@ module _ (s : List ℕ) (g : Good s) (i : ℕ) (h : i < count s) where
       omega (arith, w, f, st, ln, p, m)
 
   pub few : count s ≤ 2000
-  few = laid-few s g.layout
+  few = laid_few s g.layout
 
 -- ---- the operation that it is
 

@@ -1,29 +1,35 @@
-//! A trace's records, one after the other: as many as a lent buffer has room for, or the whole trace at once.
+//! A trace's records, one after the other: as many as a page has room for, or the whole trace at once.
 
 #![tactic(auto)]
 
-ghost use Rattle.std.specs.Prelude.{◌≡◌, true, ◌+◌, ◌<◌, ◌≤◌, length};
+ghost use Rattle.std.specs.Prelude.{◌≡◌, ◌+◌, ◌*◌, ◌<◌, ◌≤◌, length, IfOk, IfErr};
+ghost use Rattle.words.specs.Refusals.{refusal_number};
 ghost use Rattle.mmio_state.specs.Fresh.{no_state};
 ghost use Rattle.mmio_v2.specs.Fresh.{device};
-ghost use Rattle.trace.specs.Verdict.{Good, count, record_of};
-ghost use Rattle.play.specs.Log.{operation_at};
-ghost use Rattle.play.specs.Play.{Runs};
-ghost use Rattle.desk.specs.Desk.{Advanced, Begun, Parted, Pieced, Replayed, enough, goes_on};
+ghost use Rattle.history.specs.Run.{run};
+ghost use Rattle.trace.specs.Block.{block_at};
+ghost use Rattle.trace.specs.Verdict.{Good, record_of, verdict_of};
+ghost use Rattle.text.specs.Page.{Prints};
+ghost use Rattle.play.specs.Log.{operation_at, operation_of, records_of};
+ghost use Rattle.play.specs.Text.{replay_text};
+ghost use Rattle.play.specs.Play.{Ran};
+ghost use Rattle.desk.specs.Desk.{Replayed};
 
-use mmio_state::MmioV2DeviceState;
 use mmio_v2::MmioV2Device;
-use play::{RECORD_ROOM, Ran, Show};
-use trace::{Next, Record};
+use play::{RECORD_ROOM, Show};
+use text::Page;
+use trace::Record;
+use words::Refusal;
 
-/// Where the running of records has come to: the device, the next record, the next place in the buffer.
+/// Where the running of records has come to: the device, and the next record.
 #[derive(Clone, Copy)]
 pub struct Part {
     pub device: MmioV2Device,
     pub next: usize,
-    pub at: usize,
 }
 
 /// A whole trace: the device at its end, how many bytes its text has, and whether there was room for it.
+// Kept as a flag beside the rest: it is a C struct.
 #[repr(C)]
 #[derive(Clone, Copy)]
 pub struct Played {
@@ -32,161 +38,114 @@ pub struct Played {
     pub whole: bool,
 }
 
-// ---- one record of a trace
-
-fn number(i: usize) -> u32
-    requires { i < 2000 }
-    ensures { result ≡ i + 1 }
-{
-    (i + 1) as u32
-}
-
-fn as_usize(n: u32) -> usize
-    ensures { result ≡ n }
-{
-    n as usize
-}
-
-fn as_u32(n: usize) -> u32
-    requires { n ≤ 2000 }
-    ensures { result ≡ n }
-{
-    n as u32
-}
-
-fn run_here(
-    d: MmioV2Device,
-    s: &[u8],
-    n: usize,
-    i: usize,
-    r: Record,
+// A trace that is good, with the number of its records, and what is shown of it.
+#[derive(Clone, Copy)]
+struct Log<'a> {
+    trace: &'a [u8],
+    count: usize,
     show: Show,
-    out: &mut [u8],
-    at: usize,
-) -> Ran
-    requires { Good s.now × (n ≡ count s.now) × (i < n) × (r ≡ record_of s.now i) × (at + 10304 ≤ length out.old) }
-    ensures { Runs true show (i + 1) d.state (operation_at s.now i) out.old at out.new result }
-{
-    if r.kind == 2 {
-        let a = 264 + 24 * n + as_usize(r.start);
-        let e = a + as_usize(r.len);
-        return play::run_record(d, number(i), r, &s[a..e], show, out, at);
-    }
-    let none = [0u8; 0];
-    play::run_record(d, number(i), r, &none, show, out, at)
+    ghost good: { Good trace.now },
+    ghost counts: { count ≡ Rattle.trace.specs.Verdict.count trace.now },
+    ghost few: { count ≤ 2000 },
 }
 
-// Every record of a good trace may run: of the three answers only the first is met.
-fn run_at(
-    d: MmioV2Device,
-    s: &[u8],
-    n: usize,
-    i: usize,
-    show: Show,
-    out: &mut [u8],
-    at: usize,
-) -> Ran
-    requires { Good s.now × (n ≡ count s.now) × (i < n) × (at + 10304 ≤ length out.old) }
-    ensures { Runs true show (i + 1) d.state (operation_at s.now i) out.old at out.new result }
-{
-    match reader::read_at(s, i) {
-        Next::One(r) => run_here(d, s, n, i, r, show, out, at),
-        Next::Bad(_) => Ran {
-            device: d,
-            at,
-            ran: false,
-        },
-        Next::End => Ran {
-            device: d,
-            at,
-            ran: false,
-        },
+impl<'a> Log<'a> {
+    ghost use Rattle.desk.specs.Desk.{Parted};
+    ghost use Rattle.desk.specs.Log.{Opens};
+
+    // The trace, or what is wrong with it.
+    fn open(trace: &'a [u8], show: Show) -> Result<Log<'a>, Refusal>
+        ensures ok { IfOk result (Opens trace.now show) }
+        ensures err { IfErr result (λ e. refusal_number e ≡ verdict_of trace.now) }
+    {
+        trace::verdict(trace)?;
+        let count = trace::count(trace);
+        Ok(Log { trace, count, show })
     }
-}
 
-// ---- some records
-
-fn advance(t: Part, s: &[u8], n: usize, show: Show, out: &mut [u8]) -> Part
-    requires { Good s.now × (n ≡ count s.now) × (t.next < n) × (t.at + 10304 ≤ length out.old) }
-    ensures { Advanced show s.now t out.old out.new result }
-{
-    let d = t.device;
-    let g = run_at(d, s, n, t.next, show, out, t.at);
-    let e = g.device;
-    Part {
-        device: e,
-        next: t.next + 1,
-        at: g.at,
-    }
-}
-
-fn goes_on(next: usize, n: usize, len: usize, at: usize) -> bool
-    ensures { result ≡ goes_on next n len at }
-{
-    if next < n {
-        return text::has_room(RECORD_ROOM, len, at);
-    }
-    false
-}
-
-fn run_part(t: Part, s: &[u8], n: usize, show: Show, out: &mut [u8]) -> Part
-    requires { Good s.now × (n ≡ count s.now) × (t.next ≤ n) }
-    ensures { Parted show s.now t.device.state t.next out.old t.at out.new result }
-{
-    let mut u = t;
-    while goes_on(u.next, n, out.len(), u.at) {
-        u = advance(u, s, n, show, out);
-    }
-    u
-}
-
-/// Runs the records of a good trace from where t has come to, while `RECORD_ROOM` bytes are left for each. Of a bad trace, or
-/// past its end, nothing is run.
-pub fn piece(t: Part, s: &[u8], show: Show, out: &mut [u8]) -> Part
-    ensures { Pieced show s.now t out.old out.new result }
-{
-    if trace::verdict(s) == 0 {
-        let n = trace::count(s);
-        if t.next <= n {
-            return run_part(t, s, n, show, out);
+    // What a record writes; nothing where it is no write.
+    fn bytes_of(self, i: usize, r: Record) -> &'a [u8]
+        requires { (i < self.count) × (r ≡ record_of self.trace.now i) }
+        ensures { operation_at self.entry.trace.now i ≡ operation_of r result.now }
+    {
+        if r.kind == 2 {
+            let start = 264 + 24 * self.count + r.start as usize;
+            &self.trace[start..start + r.len as usize]
+        } else {
+            &[]
         }
-        return t;
     }
-    t
+
+    // Every record of a good trace may run, so the reader finds one, and it runs.
+    fn run_at(self, d: MmioV2Device, i: usize, page: &mut Page) -> MmioV2Device
+        requires { (i < self.count) × (page.old.at + 10304 ≤ length page.old.out.now) }
+        ensures { Ran self.entry.show (i + 1) d.state (operation_at self.entry.trace.now i) page.old page.new result }
+    {
+        let Ok(Some(r)) = reader::read_at(self.trace, i) else {
+            unreachable!();
+        };
+        let bytes = self.bytes_of(i, r);
+        play::run_record(d, page, self.show, (i + 1) as u32, r, bytes).unwrap()
+    }
+
+    fn run_part(self, t: Part, page: &mut Page) -> Part
+        requires { t.next ≤ self.count }
+        ensures { Parted self.entry.show self.entry.trace.now t.device.state t.next page.old page.new result }
+    {
+        let mut u = t;
+        while u.next < self.count && page.has_room(RECORD_ROOM) {
+            u.device = self.run_at(u.device, u.next, page);
+            u.next += 1;
+        }
+        u
+    }
+
+    // The heading, all records, the end.
+    fn run_all(self, page: &mut Page) -> MmioV2Device
+        requires { page.old.at + 128 + 10304 * self.count ≤ length page.old.out.now }
+        ensures device { result ≡ device (run (block_at self.entry.trace.now) (records_of self.entry.trace.now)) }
+        ensures text { Prints (128 + 10304 * self.entry.count) page.old (replay_text self.entry.show self.entry.trace.now) page.new }
+    {
+        let t = Part::begin(self.trace, page);
+        let u = self.run_part(t, page);
+        page.end(self.count as u32);
+        u.device
+    }
+}
+
+impl Part {
+    ghost use Rattle.desk.specs.Desk.{Begun, Pieced};
+
+    /// A device of the trace's configuration, before its first record, and the heading on the page. A configuration that is
+    /// refused gives a device of zeros; what else may be wrong with the trace is for `verdict` to say.
+    pub fn begin(s: &[u8], page: &mut Page) -> Part
+        ensures { Begun s.now page.old page.new result }
+    {
+        page.heading();
+        Part {
+            device: MmioV2Device::new(trace::configuration(s)).unwrap_or_default(),
+            next: 0,
+        }
+    }
+
+    /// Runs the records of a good trace from here on, while `RECORD_ROOM` bytes are left for each. Of a bad trace, or past its end,
+    /// nothing is run.
+    pub fn piece(self, s: &[u8], show: Show, page: &mut Page) -> Part
+        ensures { Pieced show s.now self page.old page.new result }
+    {
+        match Log::open(s, show) {
+            Ok(log) if self.next <= log.count => log.run_part(self, page),
+            _ => self,
+        }
+    }
 }
 
 // ---- the whole
 
-/// A device of the trace's configuration, before its first record, and the heading in the buffer's front. A configuration that
-/// is refused gives a device of zeros; what else may be wrong with the trace is for `verdict` to say.
-pub fn begin(s: &[u8], out: &mut [u8]) -> Part
-    ensures { Begun s.now out.old out.new result }
-{
-    let m = MmioV2Device::new(trace::configuration(s));
-    let at = text::heading(out, 0);
-    let d = m.device;
-    Part {
-        device: d,
-        next: 0,
-        at,
-    }
-}
-
 fn no_device() -> MmioV2Device
     ensures { result ≡ device no_state }
 {
-    MmioV2Device {
-        state: MmioV2DeviceState::none(),
-    }
-}
-
-fn is_enough(s: &[u8], len: usize) -> bool
-    ensures { result ≡ enough s.now len }
-{
-    if trace::verdict(s) == 0 {
-        return 128 + RECORD_ROOM * trace::count(s) <= len;
-    }
-    128 <= len
+    MmioV2Device::default()
 }
 
 /// The text of a trace at the front of the buffer, from a fresh device of its configuration. Where the buffer has less than 128
@@ -194,37 +153,29 @@ fn is_enough(s: &[u8], len: usize) -> bool
 pub fn replay(s: &[u8], show: Show, out: &mut [u8]) -> Played
     ensures { Replayed show s.now out.old out.new result }
 {
-    if is_enough(s, out.len()) {} else {
-        return Played {
+    match Log::open(s, show) {
+        Ok(log) if 128 + RECORD_ROOM * log.count <= out.len() => {
+            let mut page = Page::new(out);
+            let device = log.run_all(&mut page);
+            Played {
+                device,
+                len: page.at,
+                whole: true,
+            }
+        }
+        Err(e) if 128 <= out.len() => {
+            let mut page = Page::new(out);
+            page.bad(e.number());
+            Played {
+                device: no_device(),
+                len: page.at,
+                whole: true,
+            }
+        }
+        _ => Played {
             device: no_device(),
             len: 0,
             whole: false,
-        };
-    }
-    let v = trace::verdict(s);
-    if v == 0 {
-        return run_all(s, show, out);
-    }
-    let p = text::bad(out, 0, v);
-    Played {
-        device: no_device(),
-        len: p,
-        whole: true,
-    }
-}
-
-fn run_all(s: &[u8], show: Show, out: &mut [u8]) -> Played
-    requires { Good s.now × (enough s.now (length out.old) ≡ true) }
-    ensures { Replayed show s.now out.old out.new result }
-{
-    let n = trace::count(s);
-    let t = begin(s, out);
-    let u = run_part(t, s, n, show, out);
-    let p = text::end(out, u.at, as_u32(n));
-    let d = u.device;
-    Played {
-        device: d,
-        len: p,
-        whole: true,
+        },
     }
 }

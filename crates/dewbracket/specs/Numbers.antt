@@ -7,7 +7,7 @@ use Rattle.tape.specs.Held.{entry}
 use Rattle.mmio_tables.specs.declared.Kind.{Kind}
 use Rattle.mmio_tables.specs.declared.Kind.TheVariants.{Doorbell, Notify}
 use Rattle.mmio_tables.specs.declared.Reply.{Reply}
-use Rattle.mmio_tables.specs.declared.Standing.{Standing}
+use Rattle.mmio_tables.specs.declared.HeldReply.{HeldReply}
 use Rattle.mmio_state.specs.State.{State}
 use Rattle.mmio_state.specs.Fields.{asked, asked_held}
 
@@ -18,6 +18,6 @@ kind_numbered n = pick (eqb n 0) Doorbell Notify
 unfoldable pub asked_by_number : State → (queue field : ℕ) → Reply
 asked_by_number s q n = pick (ltb n 8) (asked s q (field_numbered n)) (record { refusal = 13; value = 0 })
 
-unfoldable pub held_by_number : State → (queue kind : ℕ) → Standing
+unfoldable pub held_by_number : State → (queue kind : ℕ) → HeldReply
 held_by_number s q n =
     pick (ltb n 2) (asked_held s q (kind_numbered n)) (record { refusal = 13; stands = false; entry = entry 0 0 0 0 })

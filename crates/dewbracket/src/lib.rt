@@ -10,35 +10,26 @@ ghost use Rattle.mmio_v2.specs.Fresh.{made_device};
 ghost use Rattle.mmio_v2.specs.Operation.{Raise, Read, Write};
 ghost use Rattle.mmio_v2.specs.Step.{answer_of, replied, step};
 ghost use Rattle.desk.specs.Desk.{Replayed};
-ghost use Rattle.dewbracket.specs.Numbers.{asked_by_number, held_by_number, kind_numbered};
+ghost use Rattle.dewbracket.specs.Numbers.{asked_by_number, held_by_number};
 ghost use Rattle.dewbracket.specs.Promises.{PollsRead, PollsWrite, Raises, Reads, Writes};
 
 use desk::Played;
 use mmio_config::Configuration;
 use mmio_fast::{Quick, Told};
-use mmio_tables::{Kind, Reply, Standing};
+use mmio_tables::{HeldReply, Kind, Reply};
 use mmio_v2::{Answer, MadeDevice, MmioV2Device};
 use play::Show;
-use tape::Entry;
-use virtq::QueueIndex;
+use virtq::{Field, QueueIndex};
 
 /// A fresh device, or the number of its refusal, 1 to 6.
+#[tactic(auto, using(mmio_v2::proofs::Making::made_new))]
 pub fn dewbracket_new(c: Configuration) -> MadeDevice
     ensures { result ≡ made_device c }
 {
-    MmioV2Device::new(c)
+    MadeDevice::from(MmioV2Device::new(c))
 }
 
 // ---- the questions, by number: no enum crosses into C
-
-fn kind_numbered(n: u32) -> Kind
-    ensures { result ≡ kind_numbered n }
-{
-    match n {
-        0 => Kind::Doorbell,
-        _ => Kind::Notify,
-    }
-}
 
 /// The status register.
 pub fn dewbracket_driver_status(d: MmioV2Device) -> u32
@@ -48,38 +39,21 @@ pub fn dewbracket_driver_status(d: MmioV2Device) -> u32
 }
 
 /// What a field of a queue holds, the fields numbered from 0 to 7; or refusal 13.
-#[tactic(auto, unfolding(crate::specs::Numbers::asked_by_number))]
+#[tactic(auto, unfolding(crate::specs::Numbers::asked_by_number), using(mmio_state::proofs::Asking::asked_is))]
 pub fn dewbracket_field(d: MmioV2Device, queue: u32, field: u32) -> Reply
     ensures { result ≡ asked_by_number d.state queue field }
 {
-    if field < 8 {
-        return d.field(QueueIndex(queue), virtq::field_numbered(field));
-    }
-    Reply {
-        refusal: 13,
-        value: 0,
-    }
+    let answer = Field::try_from(field).and_then(|f| d.field(QueueIndex(queue), f));
+    Reply::from(answer)
 }
 
 /// Whether a registration of a queue stands, 0 its doorbell and 1 its notify word, and with what; or refusal 13.
 #[tactic(auto, unfolding(crate::specs::Numbers::held_by_number))]
-pub fn dewbracket_held_entry(d: MmioV2Device, queue: u32, kind: u32) -> Standing
+pub fn dewbracket_held_entry(d: MmioV2Device, queue: u32, kind: u32) -> HeldReply
     ensures { result ≡ held_by_number d.state queue kind }
 {
-    if kind < 2 {
-        return d.held_entry(QueueIndex(queue), kind_numbered(kind));
-    }
-    let entry = Entry {
-        queue: 0,
-        address: 0,
-        width: 0,
-        value: 0,
-    };
-    Standing {
-        refusal: 13,
-        stands: false,
-        entry,
-    }
+    let answer = Kind::try_from(kind).and_then(|k| d.held_entry(QueueIndex(queue), k));
+    HeldReply::from(answer)
 }
 
 // ---- by value: the device's own methods

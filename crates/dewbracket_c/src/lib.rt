@@ -15,7 +15,7 @@ ghost use Rattle.dewbracket.specs.Promises.{PollsRead, PollsWrite, Raises, Reads
 use desk::Played;
 use mmio_config::Configuration;
 use mmio_fast::{Quick, Told};
-use mmio_tables::{Reply, Standing};
+use mmio_tables::{HeldReply, Reply};
 use mmio_v2::{Answer, MadeDevice, MmioV2Device};
 use play::Show;
 
@@ -47,7 +47,7 @@ pub extern "C" fn dewbracket_field(d: MmioV2Device, queue: u32, field: u32) -> R
 
 /// Whether a registration of a queue stands, 0 its doorbell and 1 its notify word, and with what; or refusal 13.
 #[unsafe(no_mangle)]
-pub extern "C" fn dewbracket_held_entry(d: MmioV2Device, queue: u32, kind: u32) -> Standing
+pub extern "C" fn dewbracket_held_entry(d: MmioV2Device, queue: u32, kind: u32) -> HeldReply
     ensures { result ≡ held_by_number d.state queue kind }
 {
     dewbracket::dewbracket_held_entry(d, queue, kind)

@@ -1,8 +1,12 @@
 -- The code's masks and products, over plain numbers.
-use Rattle.std.proofs.Common.{◌≡◌, ℕ, ◌+◌, ◌-◌, ◌*◌, ◌/◌, ◌%◌, ◌^◌, ◌<◌, ◌≤◌, ap, ◌∙◌, ap₂, mul-le-mul, arith}
+use Rattle.std.proofs.Common.{◌≡◌, ℕ, ◌+◌, ◌-◌, ◌*◌, ◌/◌, ◌%◌, ◌^◌, ◌<◌, ◌≤◌, false, not, nat_eq, refl, ap, ◌∙◌, ap₂, mul-le-mul, arith}
 use lib.Bits.{bit_and, bit_or, and_block, and_high, and_mask, or_block, or_shifted, or_zero_r}
 use lib.Pow.{le_ones}
-use Rattle.words.specs.Bits.{without}
+use Rattle.std.specs.Prelude.{Option, None, Some}
+use Rattle.std.specs.Option.{is_some, unwrap_or}
+use Rattle.words.specs.Pick.{pick}
+use Rattle.words.specs.Bits.{bit, without}
+use Rattle.words.proofs.Bits.{masked-bit}
 use Rattle.dragonball.specs.declared.MsiCommand.{MsiCommand}
 use Rattle.dragonball.specs.Messages.{command_of}
 
@@ -42,3 +46,12 @@ command-parts v h =
   where
     parts : ℕ → ℕ → MsiCommand
     parts x y = record { code = x; argument = y }
+
+-- a features word, if one is given: its bit 2, and its low 8 bits without it
+pub given-bit : (f : Option ℕ) → not (nat_eq (bit_and (unwrap_or f 0) 4) 0) ≡ pick (is_some f) (bit 2 (unwrap_or f 0)) false
+given-bit None = refl
+given-bit (Some x) = masked-bit 2 x
+
+pub given-without : (f : Option ℕ) → bit_and (bit_and (unwrap_or f 0) 255) (2 ^ 32 - 1 - 4) ≡ pick (is_some f) (without 2 (unwrap_or f 0 % 256)) 0
+given-without None = refl
+given-without (Some x) = ap (λ (y : ℕ). bit_and y (2 ^ 32 - 1 - 4)) (and_mask x 8) ∙ without-bit-2 (x % 256) (omega arith)

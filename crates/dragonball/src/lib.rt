@@ -13,6 +13,7 @@
 #![tactic(auto)]
 
 ghost use Rattle.std.specs.Prelude.{◌≡◌, ℕ, ◌<◌};
+ghost use Rattle.std.specs.Option.{is_some, unwrap_or};
 ghost use Rattle.words.specs.Pick.{pick};
 ghost use Rattle.dragonball.specs.Vendor.{feature_bits, fresh_doorbell, vendor_word};
 ghost use Rattle.dragonball.specs.DoorBell.{door_bell, queue_offset, register_data};
@@ -125,7 +126,7 @@ pub const REG_MMIO_MSI_CMD_UPDATE: u64 = 0x1;
 /// Support per-virtque doorbell, so the guest kernel may directly write to the doorbells provided
 /// by hardware virtio devices.
 #[repr(C)]
-#[derive(Clone, Copy)]
+#[derive(Clone, Copy, PartialEq, Eq, Debug)]
 pub struct DoorBell {
     offset: u32,
     scale: u32,
@@ -157,7 +158,7 @@ impl DoorBell {
     pub fn queue_offset(self, queue_index: QueueIndex) -> u64
         ensures { result ≡ queue_offset self queue_index }
     {
-        (self.offset as u64) + (self.scale as u64) * (queue_index.0 as u64)
+        u64::from(self.offset) + u64::from(self.scale) * u64::from(queue_index.0)
     }
 
     /// Returns the register data. The shift drops what leaves the word, as it does in the Rust.
@@ -171,7 +172,7 @@ impl DoorBell {
 // In mmio_state.rs and mmio_v2.rs what follows is spread over functions with other work. Here each rule is a function.
 
 /// A message command taken apart.
-#[derive(Clone, Copy)]
+#[derive(Clone, Copy, PartialEq, Eq, Debug)]
 pub struct MsiCommand {
     pub code: u16,
     pub argument: u16,
@@ -190,51 +191,40 @@ pub fn msi_command(v: u16) -> MsiCommand
 fn msi_feature(msi: bool) -> u32
     ensures { result ≡ pick msi 2 0 }
 {
-    if msi {
-        return DRAGONBALL_FEATURE_MSI_INTR;
-    }
-    0
+    if msi { DRAGONBALL_FEATURE_MSI_INTR } else { 0 }
 }
 
-fn feature_bits(given: bool, features: u32, wildcard: bool) -> u32
-    ensures { result ≡ feature_bits given features wildcard }
+fn feature_bits(features: Option<u32>, wildcard: bool) -> u32
+    ensures { result ≡ feature_bits (is_some features) (unwrap_or features 0) wildcard }
 {
-    let low = features & DRAGONBALL_FEATURE_MASK;
-    if given {
-        if wildcard {
-            return low;
-        }
-        return low & !DRAGONBALL_FEATURE_PER_QUEUE_NOTIFY;
+    let low = features.unwrap_or(0) & DRAGONBALL_FEATURE_MASK;
+    if wildcard {
+        return low;
     }
-    0
+    low & !DRAGONBALL_FEATURE_PER_QUEUE_NOTIFY
 }
 
 /// The vendor word: from the configuration's MSI flag, the features word if one is given, and whether the host serves a
 /// registration that matches any length.
-pub fn device_vendor(msi: bool, given: bool, features: u32, wildcard: bool) -> u32
-    ensures { result ≡ vendor_word msi given features wildcard }
+pub fn device_vendor(msi: bool, features: Option<u32>, wildcard: bool) -> u32
+    ensures { result ≡ vendor_word msi (is_some features) (unwrap_or features 0) wildcard }
 {
-    MMIO_VENDOR_ID_DRAGONBALL | msi_feature(msi) | feature_bits(given, features, wildcard)
+    MMIO_VENDOR_ID_DRAGONBALL | msi_feature(msi) | feature_bits(features, wildcard)
 }
 
 /// Whether a fresh device has a doorbell.
-pub fn doorbell_enabled(given: bool, features: u32, wildcard: bool) -> bool
-    ensures { result ≡ fresh_doorbell given features wildcard }
+pub fn doorbell_enabled(features: Option<u32>, wildcard: bool) -> bool
+    ensures { result ≡ fresh_doorbell (is_some features) (unwrap_or features 0) wildcard }
 {
-    if given {
-        if wildcard {
-            return features & DRAGONBALL_FEATURE_PER_QUEUE_NOTIFY != 0;
-        }
-        return false;
-    }
-    false
+    let word = features.unwrap_or(0);
+    wildcard && word & DRAGONBALL_FEATURE_PER_QUEUE_NOTIFY != 0
 }
 
 /// The address of a shared-memory region: its offset in the list, added to the list's address.
 pub fn shm_base(offset: u64, guest_addr: u64) -> u64
     ensures { result ≡ region_base offset guest_addr }
 {
-    std::num::wrapping_add_u64(offset, guest_addr)
+    offset.wrapping_add(guest_addr)
 }
 
 /// The low half of a word of 64 bits.

@@ -19,8 +19,8 @@ use Rattle.virtq.specs.declared.Queue.{Queue}
 use Rattle.virtq.specs.declared.Field.{Field}
 use Rattle.virtq.specs.declared.Field.TheVariants as F
 use Rattle.virtq.specs.declared.Memory.{Memory}
-use Rattle.virtq.specs.declared.Scan.{Scan}
-use Rattle.virtq.specs.declared.Scan.TheVariants.{At}
+use Rattle.std.specs.Prelude.{Option, Some}
+use Rattle.virtq.specs.declared.QueueIndex.{QueueIndex}
 use Rattle.tape.specs.Held.{held_after}
 use Rattle.tape.specs.declared.Held.{Held}
 use Rattle.activation.specs.Requests.{begins, stops}
@@ -124,8 +124,8 @@ scan-same : (m : Memory) (g h : Holds) (i n : ℕ) → ((j : ℕ) → i ≤ j �
 unfolding scanned
 scan-same m g h i zero e = refl
 scan-same m g h i (suc n) e =
-    ap (λ (f : Field → ℕ). pick (valid m f) (scanned m g (i + 1) n) (At (record { 0 = i }))) (e i (omega arith) (omega arith))
-    ∙ ap (λ (x : Scan). pick (valid m (h i)) x (At (record { 0 = i }))) (scan-same m g h (i + 1) n (λ j a b. e j (omega arith) (omega arith)))
+    ap (λ (f : Field → ℕ). pick (valid m f) (scanned m g (i + 1) n) (Some (record { 0 = i }))) (e i (omega arith) (omega arith))
+    ∙ ap (λ (x : Option QueueIndex). pick (valid m (h i)) x (Some (record { 0 = i }))) (scan-same m g h (i + 1) n (λ j a b. e j (omega arith) (omega arith)))
 
 scan-first : (m : Memory) (g : Holds) (n : ℕ) → scanned m g 0 n ≡ scanned m (first n g) 0 n
 scan-first m g n = scan-same m g (first n g) 0 n (λ j a b. fun_ext (λ f. here j f b))
@@ -159,7 +159,7 @@ module _ (c : Configuration) (s : State) (p : Kind c s) where
       let m : s.config.memory ≡ record { length = c.memory } = ap (λ (x : Config). x.memory) p.configured in
       ap (λ (n : ℕ). begins s.hot.doorbell n (none_found (scanned s.config.memory (fields_of s.queues) 0 n)) k) counted-all
       ∙ ap (λ (y : Memory). begins s.hot.doorbell (queue_count c) (none_found (scanned y (fields_of s.queues) 0 (queue_count c))) k) m
-      ∙ ap (λ (x : Scan). begins s.hot.doorbell (queue_count c) (none_found x) k) (scan-first (record { length = c.memory }) (fields_of s.queues) (queue_count c))
+      ∙ ap (λ (x : Option QueueIndex). begins s.hot.doorbell (queue_count c) (none_found x) k) (scan-first (record { length = c.memory }) (fields_of s.queues) (queue_count c))
 
   -- a move: what is known after it, and the queues
   record Moved (k : ℕ) (m : Move) : Type 0 where

@@ -39,7 +39,7 @@ abbrev pub words_text : List ℕ → (n : ℕ) → List ℕ
 words_text w n = rows n (λ (i : ℕ). action_line (action_in w i))
 
 -- they are written where n is at most 64, the lent words hold so many, and 128 bytes are left for each
-unfoldable pub actions_room : (n words len at : ℕ) → Bool
+abbrev pub actions_room : (n words len at : ℕ) → Bool
 actions_room n w len at = pick (leb n 64) (pick (leb (5 * n) w) (room (128 * n) len at) false) false
 
 -- ---- the fields of the queues
@@ -56,5 +56,5 @@ abbrev pub queues_text : List Queue → (n : ℕ) → List ℕ
 queues_text qs n = rows n (queue_line qs)
 
 -- they are written where n is at most 16 and 128 bytes are left for each
-unfoldable pub queues_room : (n len at : ℕ) → Bool
+abbrev pub queues_room : (n len at : ℕ) → Bool
 queues_room n len at = pick (leb n 16) (room (128 * n) len at) false

@@ -3,15 +3,15 @@
 
 #![tactic(auto)]
 
-ghost use Rattle.std.specs.Prelude.{◌≡◌, [], ◌+◌, ◌*◌, ◌≤◌, length};
-ghost use Rattle.words.specs.Actions.{Emitted};
-ghost use Rattle.words.specs.Pick.{pick};
+ghost use Rattle.std.specs.Prelude.{◌≡◌, ◌+◌, ◌*◌, ◌≤◌, length};
 ghost use Rattle.virtq.specs.Fields.{field_of};
 ghost use Rattle.virtq.specs.Valid.{address};
 ghost use Rattle.virtq.specs.declared.Field.TheVariants as F;
 ghost use Rattle.text.specs.Details.{field_line};
+ghost use Rattle.text.specs.Page.{Prints, PrintsIf};
 ghost use Rattle.listing.specs.Listing.{action_in, actions_room, queues_room, queues_text, words_text};
 
+use text::{DETAIL_ROOM, Fields, Page};
 use virtq::{Field, MAX_QUEUES, Queue};
 use words::Action;
 
@@ -33,90 +33,66 @@ fn action_at(w: &[u64], i: usize) -> Action
     }
 }
 
-fn put_actions(out: &mut [u8], at: usize, w: &[u64], n: usize) -> usize
-    requires { (n ≤ 64) × (5 * n ≤ length w.now) × (at + 128 * n ≤ length out.old) }
-    ensures emitted { Emitted out.old at (words_text w.now n) out.new result }
-    ensures upper_bound { result ≤ at + 128 * n }
+fn put_actions(page: &mut Page, w: &[u64], n: usize)
+    requires { (n ≤ 64) × (5 * n ≤ length w.now) × (page.old.at + 128 * n ≤ length page.old.out.now) }
+    ensures { Prints (128 * n) page.old (words_text w.now n) page.new }
 {
-    let mut p = at;
-    let mut i: usize = 0;
-    while i < n {
-        let x = action_at(w, i);
-        p = text::action_line(out, p, x);
-        i = i + 1;
+    for i in 0..n {
+        page.action_line(action_at(w, i));
     }
-    p
 }
 
-fn has_actions_room(n: usize, words: usize, len: usize, at: usize) -> bool
-    ensures { result ≡ actions_room n words len at }
+fn has_actions_room(page: &Page, w: &[u64], n: usize) -> bool
+    ensures { result ≡ actions_room n (length w.now) (length page.now.out.now) page.now.at }
 {
-    if MAX_ACTIONS < n {
-        return false;
-    }
-    if words < 5 * n {
-        return false;
-    }
-    text::has_room(128 * n, len, at)
+    n <= MAX_ACTIONS && 5 * n <= w.len() && page.has_room(DETAIL_ROOM * n)
 }
 
 /// The first n action records of the lent words, a line each.
-pub fn actions(out: &mut [u8], at: usize, w: &[u64], n: usize) -> usize
-    ensures emitted { Emitted out.old at (pick (actions_room n (length w.now) (length out.old) at) (words_text w.now n) []) out.new result }
-    ensures upper_bound { result ≤ at + 128 * n }
+pub fn actions(page: &mut Page, w: &[u64], n: usize)
+    ensures { PrintsIf (actions_room n (length w.now) (length page.old.out.now) page.old.at) (128 * n) page.old (words_text w.now n) page.new }
 {
-    if has_actions_room(n, w.len(), out.len(), at) {
-        return put_actions(out, at, w, n);
+    if has_actions_room(page, w, n) {
+        put_actions(page, w, n);
     }
-    at
 }
 
 // ---- the fields of the queues
 
-fn put_queue(out: &mut [u8], at: usize, i: u32, q: Queue) -> usize
-    requires { at + 128 ≤ length out.old }
-    ensures emitted { Emitted out.old at (field_line i (field_of q F.Size) (field_of q F.Ready) (address q.desclow q.deschigh) (address q.availlow q.availhigh) (address q.usedlow q.usedhigh)) out.new result }
-    ensures upper_bound { result ≤ at + 128 }
+fn put_queue(page: &mut Page, index: u32, q: Queue)
+    requires { page.old.at + 128 ≤ length page.old.out.now }
+    ensures { Prints 128 page.old (field_line index (field_of q F.Size) (field_of q F.Ready) (address q.desclow q.deschigh) (address q.availlow q.availhigh) (address q.usedlow q.usedhigh)) page.new }
 {
-    let size = q.get(Field::Size);
-    let ready = q.get(Field::Ready);
-    let desc = virtq::address(q.desclow, q.deschigh);
-    let avail = virtq::address(q.availlow, q.availhigh);
-    let used = virtq::address(q.usedlow, q.usedhigh);
-    text::field_line(out, at, i, size, ready, desc, avail, used)
+    page.field_line(Fields {
+        index,
+        size: q.get(Field::Size),
+        ready: q.get(Field::Ready),
+        desc: virtq::address(q.desclow, q.deschigh),
+        avail: virtq::address(q.availlow, q.availhigh),
+        used: virtq::address(q.usedlow, q.usedhigh),
+    });
 }
 
-fn put_queues(out: &mut [u8], at: usize, queues: [Queue; MAX_QUEUES], n: u32) -> usize
-    requires { (n ≤ 16) × (at + 128 * n ≤ length out.old) }
-    ensures emitted { Emitted out.old at (queues_text queues n) out.new result }
-    ensures upper_bound { result ≤ at + 128 * n }
+fn put_queues(page: &mut Page, queues: [Queue; MAX_QUEUES], n: u32)
+    requires { (n ≤ 16) × (page.old.at + 128 * n ≤ length page.old.out.now) }
+    ensures { Prints (128 * n) page.old (queues_text queues n) page.new }
 {
-    let mut p = at;
-    let mut i: u32 = 0;
-    while i < n {
-        let q = queues[i as usize];
-        p = put_queue(out, p, i, q);
-        i = i + 1;
+    for index in 0..n {
+        put_queue(page, index, queues[index as usize]);
     }
-    p
 }
 
-fn has_queues_room(n: u32, len: usize, at: usize) -> bool
-    ensures { result ≡ queues_room n len at }
+fn has_queues_room(page: &Page, n: u32) -> bool
+    ensures { result ≡ queues_room n (length page.now.out.now) page.now.at }
 {
-    if 16 < n {
-        return false;
-    }
-    text::has_room(128 * (n as usize), len, at)
+    n as usize <= MAX_QUEUES && page.has_room(DETAIL_ROOM * n as usize)
 }
 
 /// The fields of the first n queues of the table, a line each.
-pub fn queues(out: &mut [u8], at: usize, queues: [Queue; MAX_QUEUES], n: u32) -> usize
-    ensures emitted { Emitted out.old at (pick (queues_room n (length out.old) at) (queues_text queues n) []) out.new result }
-    ensures upper_bound { result ≤ at + 128 * n }
+pub fn queues(page: &mut Page, queues: [Queue; MAX_QUEUES], n: u32)
+    ensures { PrintsIf (queues_room n (length page.old.out.now) page.old.at) (128 * n) page.old (queues_text queues n) page.new }
 {
-    if has_queues_room(n, out.len(), at) {
-        return put_queues(out, at, queues, n);
+    if has_queues_room(page, n) {
+        put_queues(page, queues, n);
     }
-    at
 }

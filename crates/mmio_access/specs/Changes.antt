@@ -58,8 +58,11 @@ abbrev pub acked : State → (v : ℕ) → Effect
 acked s v = asking s (pick (acks_open s.hot.status) (ack_features s.hot.ackpage v ∷ []) [])
 
 -- "action 12 if DRIVER is set and FAILED clear"; "action 13, same test"
+abbrev pub config_asked : State → Action → Effect
+config_asked s x = asking s (pick (config_open s.hot.status) (x ∷ []) [])
+
 abbrev pub config_read : State → (offset len : ℕ) → Effect
-config_read s o l = asking s (pick (config_open s.hot.status) (read_config o l ∷ []) [])
+config_read s o l = config_asked s (read_config o l)
 
 abbrev pub config_written : State → (offset len : ℕ) → Effect
-config_written s o l = asking s (pick (config_open s.hot.status) (write_config o l ∷ []) [])
+config_written s o l = config_asked s (write_config o l)

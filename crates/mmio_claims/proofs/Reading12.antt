@@ -10,19 +10,23 @@ use lib.Bits.{bit_or, or_lt}
 use lib.Dec.{eqb, ltb}
 use lib.ListN.{get_or}
 use lib.Pow.{shr-shr, shr_le}
+use Rattle.std.specs.Prelude.{Option, Some, None}
 use Rattle.words.specs.Pick.{pick}
 use Rattle.words.specs.Bytes.{bytes_of}
+use Rattle.dragonball.specs.Regions.{region_base, low_word, high_word}
 use Rattle.registers.specs.Registers.{read_at}
 use Rattle.registers.specs.Virtio12 as std
 use Rattle.registers.specs.Apart.{Read, read_place, port_place}
 use Rattle.registers.specs.declared.ReadRegister.{ReadRegister}
 use Rattle.registers.specs.declared.ReadRegister.TheVariants as R
+use Rattle.mmio_config.specs.declared.Region.{Region}
 use Rattle.mmio_state.specs.State.{State, queues_in}
-use Rattle.mmio_access.specs.Shown.{device_features}
+use Rattle.mmio_state.specs.Fields.{selected_region}
+use Rattle.mmio_access.specs.Shown.{device_features, region_word}
 use Rattle.mmio_v2.specs.Registers.{shows, bytes_shown}
 use Rattle.mmio_v2.specs.Operation as op
 use Rattle.mmio_v2.specs.Step.{operated}
-use Rattle.mmio_claims.specs.Standard.{features, plain, Typed, reply_of, place_reads, read_parts}
+use Rattle.mmio_claims.specs.Standard.{as_region, features, plain, Typed, reply_of, place_reads, read_parts}
 
 -- ---- the pages of the feature bits
 
@@ -61,6 +65,17 @@ pages s t = go (eqb s.hot.page 0) (eqb s.hot.page 1) refl refl
         past : (s.hot.page ≡ 0 → ⊥) → (s.hot.page ≡ 1 → ⊥) → 2 ≤ s.hot.page
         past x y = omega arith
 
+-- ---- the selected region, there or not
+
+module _ (l : ℕ) (g : ℕ → ℕ) where
+  region-length : (o : Option Region) → region_word o (λ r. g r.length) ≡ std.of_region (as_region l o) g (as_region l o).length
+  region-length None = refl
+  region-length (Some r) = refl
+
+  region-based : (o : Option Region) → region_word o (λ r. g (region_base r.offset l)) ≡ std.of_region (as_region l o) g (as_region l o).base
+  region-based None = refl
+  region-based (Some r) = refl
+
 -- ---- each register
 
 module _ (s : State) (t : Typed s) (f : ℕ → ℕ) (n : List ℕ) where
@@ -79,10 +94,10 @@ module _ (s : State) (t : Typed s) (f : ℕ → ℕ) (n : List ℕ) where
   register-reads R.QueueNotify h = rw h
   register-reads R.InterruptStatus h = rw h
   register-reads R.Status h = refl
-  register-reads R.ShmLenLow h = refl
-  register-reads R.ShmLenHigh h = refl
-  register-reads R.ShmBaseLow h = refl
-  register-reads R.ShmBaseHigh h = refl
+  register-reads R.ShmLenLow h = ap (bytes_of 4) (region-length s.config.list low_word (selected_region s))
+  register-reads R.ShmLenHigh h = ap (bytes_of 4) (region-length s.config.list high_word (selected_region s))
+  register-reads R.ShmBaseLow h = ap (bytes_of 4) (region-based s.config.list low_word (selected_region s))
+  register-reads R.ShmBaseHigh h = ap (bytes_of 4) (region-based s.config.list high_word (selected_region s))
   register-reads R.ConfigGeneration h = refl
   register-reads R.MsiCsr h = absurd (true≢false h)
   register-reads (R.Config m) h = refl

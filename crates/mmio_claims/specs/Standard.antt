@@ -1,6 +1,6 @@
 -- The port's state in the standard's terms (registers/specs/Virtio12.antt), what a place of either list reads and does there,
 -- and the condition under which the port parts from it, register by register. docs/DIFFERENCES.md has a line for each.
-use Rattle.std.specs.Prelude.{Bool, true, false, not, ◌&&◌, ◌≡◌, List, [], ◌∷◌, ℕ, ◌+◌, ◌*◌, ◌^◌, ◌<◌, eqb, ltb, get_or, length}
+use Rattle.std.specs.Prelude.{Option, Some, None, Bool, true, false, not, ◌&&◌, ◌≡◌, List, [], ◌∷◌, ℕ, ◌+◌, ◌*◌, ◌^◌, ◌<◌, eqb, ltb, get_or, length}
 use Rattle.std.specs.Int.Bits.{bit_or}
 use Rattle.words.specs.Pick.{pick}
 use Rattle.words.specs.Bits.{bit}
@@ -21,6 +21,7 @@ use Rattle.registers.specs.declared.ReadRegister.TheVariants as R
 use Rattle.registers.specs.declared.WriteRegister.{WriteRegister}
 use Rattle.registers.specs.declared.WriteRegister.TheVariants as W
 use Rattle.mmio_hot.specs.Polled.{failed}
+use Rattle.mmio_config.specs.declared.Region.{Region}
 use Rattle.mmio_tables.specs.Tables.{size_at, found_at}
 use Rattle.mmio_state.specs.State.{State, queues_in}
 use Rattle.mmio_ladder.specs.Ladder.{move_of}
@@ -47,13 +48,13 @@ ring t m q =
 abbrev pub ring_of : State → ℕ → Ring
 ring_of s q = ring (ltb q (queues_in s)) (size_at s.config.sizes q (queues_in s)) (get_or s.queues q no_queue)
 
+-- one that isn't there is of zeros
+abbrev pub as_region : (list : ℕ) → Option Region → std.Region
+as_region l None = record { there = false; length = 0; base = region_base 0 l }
+as_region l (Some r) = record { there = true; length = r.length; base = region_base r.offset l }
+
 abbrev pub region_of : State → ℕ → std.Region
-region_of s r =
-    record {
-      there = (found_at s.config.table r s.config.regions).there;
-      length = (found_at s.config.table r s.config.regions).region.length;
-      base = region_base (found_at s.config.table r s.config.regions).region.offset s.config.list;
-    }
+region_of s r = as_region s.config.list (found_at s.config.table r s.config.regions)
 
 -- the feature bits: two pages of 32, and bit 32 (VIRTIO_F_VERSION_1) always
 abbrev pub features : State → ℕ

@@ -1,4 +1,4 @@
 -- How the code comes to the definitions, and what each promise determines.
-pub mod Loops
+pub mod Chains
 pub mod Accepting
 pub mod Determined

@@ -1,7 +1,10 @@
 -- What the gateway hands over, refusals 2 to 6, and what a fresh device has of it (01, "What the gateway hands over").
-use Rattle.std.specs.Prelude.{Bool, true, false, not, ◌||◌, ◌&&◌, List, ℕ, ◌+◌, ◌-◌, ◌^◌, eqb, ltb, get_or, replicate}
+use Rattle.std.specs.Prelude.{Option, Some, None, Result, Ok, Err, Bool, true, false, not, ◌||◌, ◌&&◌, List, ℕ, ◌+◌, ◌-◌, ◌^◌, eqb, ltb, get_or, replicate}
 use Rattle.words.specs.Pick.{pick, below}
 use Rattle.words.specs.Lists.{each}
+use Rattle.words.specs.Refusals.{refusal_number}
+use Rattle.words.specs.declared.Refusal.{Refusal}
+use Rattle.words.specs.declared.Refusal.TheVariants.{WindowBase, QueueCount, QueueSize, VectorCount, RegionCount}
 use Rattle.virtq.specs.Index.{max_queues}
 use Rattle.virtq.specs.Fields.{fresh_queue, size_fit}
 use Rattle.virtq.specs.declared.Queue.{Queue}
@@ -12,7 +15,6 @@ use Rattle.mmio_config.specs.declared.Region.{Region}
 use Rattle.mmio_config.specs.declared.Vector.{Vector}
 use Rattle.mmio_hot.specs.declared.Hot.{Hot}
 use Rattle.mmio_config.specs.declared.Flags.{Flags}
-use Rattle.mmio_config.specs.declared.Configured.{Configured}
 
 -- how many vectors, and regions, the tables have room for (01, refusals 5 and 6)
 abbrev pub max_vectors : ℕ
@@ -36,14 +38,30 @@ maximum_fit m = size_fit 32768 m
 abbrev pub maxima_fit : Configuration → Bool
 maxima_fit c = below c.dataqueues (λ (i : ℕ). maximum_fit (get_or c.sizes i 0)) && pick (has_control c) (maximum_fit c.control) true
 
--- the refusals' numbers, in the order of the checks; 0 where the state is made
+-- the refusals, in the order of the checks; none where the state is made
+abbrev pub refused_for : Configuration → Option Refusal
+refused_for c =
+    pick (ltb (2 ^ 64 - 0x2000) c.base) (Some WindowBase)
+    (pick (eqb (queue_count c) 0 || ltb max_queues (queue_count c)) (Some QueueCount)
+    (pick (not (maxima_fit c)) (Some QueueSize)
+    (pick (ltb max_vectors c.vectors) (Some VectorCount)
+    (pick (ltb max_regions c.regions) (Some RegionCount) None))))
+
+-- a refusal's number, 0 for none
+abbrev pub number_or_none : Option Refusal → ℕ
+number_or_none None = 0
+number_or_none (Some e) = refusal_number e
+
 abbrev pub refusal_of : Configuration → ℕ
-refusal_of c =
-    pick (ltb (2 ^ 64 - 0x2000) c.base) 2
-    (pick (eqb (queue_count c) 0 || ltb max_queues (queue_count c)) 3
-    (pick (not (maxima_fit c)) 4
-    (pick (ltb max_vectors c.vectors) 5
-    (pick (ltb max_regions c.regions) 6 0))))
+refusal_of c = number_or_none (refused_for c)
+
+-- what is made where nothing is refused
+abbrev pub unless : {X : Type 0} → Option Refusal → X → Result X Refusal
+unless None x = Ok x
+unless (Some e) x = Err e
+
+abbrev pub checked : Option Refusal → Result (Unit {0}) Refusal
+checked r = unless r tt
 
 -- a queue's maximum size: the data queues', then the control queue's, then none
 abbrev pub maximum_at : (dataqueues control i given : ℕ) → ℕ
@@ -124,5 +142,5 @@ no_config =
 abbrev pub no_flags : Flags
 no_flags = record { active = false; registered = false; enabled = false }
 
-unfoldable pub configured : Configuration → Configured
-configured c = record { refusal = refusal_of c; config = pick (eqb (refusal_of c) 0) (accepted c) no_config }
+unfoldable pub configured : Configuration → Result Config Refusal
+configured c = unless (refused_for c) (accepted c)

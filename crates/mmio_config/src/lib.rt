@@ -6,15 +6,15 @@
 #![tactic(auto)]
 
 ghost use Rattle.std.specs.Prelude.{◌≡◌, true, not, ℕ, ◌≤◌, eqb, get_or};
-ghost use Rattle.words.specs.Pick.{below, pick};
+ghost use Rattle.std.specs.List.{list_all};
 ghost use Rattle.words.specs.Lists.{each};
 ghost use Rattle.virtq.specs.Index.{max_queues};
-ghost use Rattle.tape.specs.Held.{no_held};
-ghost use Rattle.mmio_config.specs.Fresh.{accepted, configured, fresh_hot, fresh_queues, maximum_at, maximum_fit, no_config, no_flags, no_vector, region_at, refusal_of};
+ghost use Rattle.mmio_config.specs.Fresh.{accepted, checked, configured, fresh_hot, fresh_queues, maxima, maxima_fit, maximum_fit, no_config, queue_count, refused_for, region_at};
 
 use mmio_hot::Hot;
-use tape::Held;
+use std::array;
 use virtq::{MAX_QUEUES, Memory, Queue};
+use words::Refusal;
 
 /// The vectors and the regions that the tables have room for.
 pub const MAX_VECTORS: usize = 32;
@@ -23,7 +23,7 @@ pub const MAX_REGIONS: usize = 8;
 
 /// A shared-memory region: where it lies in the list, and how long it is.
 #[repr(C)]
-#[derive(Clone, Copy)]
+#[derive(Clone, Copy, PartialEq, Eq, Debug, Default)]
 pub struct Region {
     pub offset: u64,
     pub length: u64,
@@ -72,7 +72,7 @@ pub struct Config {
 
 /// `device_activated`, `ioevent_registered`, and whether interrupts are enabled.
 #[repr(C)]
-#[derive(Clone, Copy)]
+#[derive(Clone, Copy, PartialEq, Eq, Debug, Default)]
 pub struct Flags {
     pub active: bool,
     pub registered: bool,
@@ -81,20 +81,12 @@ pub struct Flags {
 
 /// A vector's stored message, and its mask.
 #[repr(C)]
-#[derive(Clone, Copy)]
+#[derive(Clone, Copy, PartialEq, Eq, Debug, Default)]
 pub struct Vector {
     pub low: u32,
     pub high: u32,
     pub message: u32,
     pub masked: bool,
-}
-
-/// An accepted configuration, or the number of its refusal and zeros.
-#[repr(C)]
-#[derive(Clone, Copy)]
-pub struct Configured {
-    pub refusal: u32,
-    pub config: Config,
 }
 
 // ---- from a configuration
@@ -105,157 +97,92 @@ fn maximum_fit(size: u32) -> bool
     virtq::size_fit(32768, size)
 }
 
-fn sizes_fit(sizes: [u16; MAX_QUEUES], n: u32) -> bool
-    requires { n ≤ max_queues }
-    ensures { result ≡ below n (λ (i : ℕ). maximum_fit (get_or sizes i 0)) }
+fn sizes_fit(sizes: &[u16]) -> bool
+    ensures { result ≡ list_all maximum_fit sizes.now }
 {
-    let mut i: usize = 0;
-    let mut all = true;
-    while i < n as usize {
-        let size = sizes[i];
-        if maximum_fit(size as u32) {
-            i = i + 1;
-        } else {
-            all = false;
-            break;
-        }
-    }
-    all
+    sizes.iter().all(|&size| maximum_fit(u32::from(size)))
 }
 
-fn control_count(control: u32) -> u32
-    ensures { result ≡ pick (not (eqb control 0)) 1 0 }
+fn maxima_fit(c: Configuration) -> bool
+    requires { c.dataqueues ≤ max_queues }
+    ensures { result ≡ maxima_fit c }
 {
-    if control == 0 {
-        return 0;
-    }
-    1
+    let n = c.dataqueues as usize;
+    sizes_fit(&c.sizes[..n]) && (c.control == 0 || maximum_fit(c.control))
 }
 
-fn control_fit(control: u32) -> bool
-    ensures { result ≡ pick (not (eqb control 0)) (maximum_fit control) true }
+// Queues, the control queue included.
+fn queue_count(c: Configuration) -> u64
+    ensures { result ≡ queue_count c }
 {
-    if control == 0 {
-        return true;
-    }
-    maximum_fit(control)
+    u64::from(c.dataqueues) + u64::from(c.control != 0)
 }
 
-// The refusal's number, in the order of the checks.
-fn refusal_of(c: Configuration) -> u32
-    ensures { result ≡ refusal_of c }
+// The checks, in the order of their numbers.
+fn check(c: Configuration) -> Result<(), Refusal>
+    ensures { result ≡ checked (refused_for c) }
 {
+    let count = queue_count(c);
     if 0xffff_ffff_ffff_e000 < c.base {
-        return 2;
+        Err(Refusal::WindowBase)
+    } else if count == 0 || count > MAX_QUEUES as u64 {
+        Err(Refusal::QueueCount)
+    } else if !maxima_fit(c) {
+        Err(Refusal::QueueSize)
+    } else if c.vectors as usize > MAX_VECTORS {
+        Err(Refusal::VectorCount)
+    } else if c.regions as usize > MAX_REGIONS {
+        Err(Refusal::RegionCount)
+    } else {
+        Ok(())
     }
-    let n = c.dataqueues as u64 + control_count(c.control) as u64;
-    if n == 0 {
-        return 3;
-    }
-    if 16 < n {
-        return 3;
-    }
-    let sizes = c.sizes;
-    if sizes_fit(sizes, c.dataqueues) {
-        if control_fit(c.control) {
-            if 32 < c.vectors {
-                return 5;
-            }
-            if 8 < c.regions {
-                return 6;
-            }
-            return 0;
+}
+
+// The data queues' maximum sizes, then the control queue's, then none.
+fn maxima(c: Configuration) -> [u16; MAX_QUEUES]
+    requires { c.control ≤ 32768 }
+    ensures { result ≡ maxima c }
+{
+    let dataqueues = c.dataqueues as usize;
+    array::from_fn(|i| {
+        if i < dataqueues {
+            c.sizes[i]
+        } else if i == dataqueues {
+            c.control as u16
+        } else {
+            0
         }
-        return 4;
-    }
-    4
-}
-
-fn maximum_at(dataqueues: u32, control: u32, i: u32, given: u16) -> u16
-    requires { control ≤ 32768 }
-    ensures { result ≡ maximum_at dataqueues control i given }
-{
-    if i < dataqueues {
-        return given;
-    }
-    if i == dataqueues {
-        return control as u16;
-    }
-    0
-}
-
-fn maxima(sizes: [u16; MAX_QUEUES], dataqueues: u32, control: u32) -> [u16; MAX_QUEUES]
-    requires { control ≤ 32768 }
-    ensures { result ≡ each (maximum_at dataqueues control) sizes }
-{
-    let mut out = [0u16; MAX_QUEUES];
-    let mut i: usize = 0;
-    while i < MAX_QUEUES {
-        let given = sizes[i];
-        out[i] = maximum_at(dataqueues, control, i as u32, given);
-        i = i + 1;
-    }
-    out
-}
-
-fn region_at(regions: u32, i: u32, r: Region) -> Region
-    ensures { result ≡ region_at regions i r }
-{
-    if i < regions {
-        return r;
-    }
-    Region {
-        offset: 0,
-        length: 0,
-    }
+    })
 }
 
 fn kept_regions(table: [Region; MAX_REGIONS], regions: u32) -> [Region; MAX_REGIONS]
     ensures { result ≡ each (region_at regions) table }
 {
-    let none = Region {
-        offset: 0,
-        length: 0,
-    };
-    let mut out = [none; MAX_REGIONS];
-    let mut i: usize = 0;
-    while i < MAX_REGIONS {
-        let r = table[i];
-        out[i] = region_at(regions, i as u32, r);
-        i = i + 1;
-    }
-    out
+    array::from_fn(|i| {
+        if i < regions as usize {
+            table[i]
+        } else {
+            Region::default()
+        }
+    })
 }
 
 /// Every queue as a wipe leaves it.
 pub fn create_queues(sizes: [u16; MAX_QUEUES]) -> [Queue; MAX_QUEUES]
     ensures { result ≡ fresh_queues sizes }
 {
-    let none = Queue::fresh(0);
-    let mut out = [none; MAX_QUEUES];
-    let mut i: usize = 0;
-    while i < MAX_QUEUES {
-        let size = sizes[i];
-        out[i] = Queue::fresh(size);
-        i = i + 1;
-    }
-    out
+    sizes.map(Queue::fresh)
 }
 
 /// The polled registers of a fresh device.
 pub fn fresh_hot(c: Configuration) -> Hot
     ensures { result ≡ fresh_hot c }
 {
+    let features = c.given.then_some(c.features);
     Hot {
-        status: 0,
-        interrupts: 0,
-        vendor: dragonball::device_vendor(c.msi, c.given, c.features, c.wildcard),
-        page: 0,
-        ackpage: 0,
-        queue: 0,
-        region: 0,
-        doorbell: dragonball::doorbell_enabled(c.given, c.features, c.wildcard),
-        msi: false,
+        vendor: dragonball::device_vendor(c.msi, features, c.wildcard),
+        doorbell: dragonball::doorbell_enabled(features, c.wildcard),
+        ..Hot::default()
     }
 }
 
@@ -263,8 +190,6 @@ fn accept(c: Configuration) -> Config
     requires { (c.control ≤ 32768) × (c.dataqueues ≤ 16) }
     ensures { result ≡ accepted c }
 {
-    let sizes = c.sizes;
-    let table = c.table;
     Config {
         base: c.base,
         memory: Memory { length: c.memory },
@@ -274,79 +199,40 @@ fn accept(c: Configuration) -> Config
         page1: c.page1,
         vectors: c.vectors,
         dataqueues: c.dataqueues,
-        count: c.dataqueues + control_count(c.control),
+        count: c.dataqueues + u32::from(c.control != 0),
         regions: c.regions,
-        sizes: maxima(sizes, c.dataqueues, c.control),
-        table: kept_regions(table, c.regions),
+        sizes: maxima(c),
+        table: kept_regions(c.table, c.regions),
     }
+}
+
+/// What an accepted configuration comes to, or its refusal: 2 to 6.
+#[tactic(auto, unfolding(crate::specs::Fresh::configured), using(crate::proofs::Accepting::small))]
+pub fn configure(c: Configuration) -> Result<Config, Refusal>
+    ensures { result ≡ configured c }
+{
+    check(c)?;
+    Ok(accept(c))
 }
 
 /// No configuration: every word 0.
-pub fn no_config() -> Config
-    ensures { result ≡ no_config }
-{
-    let none = Region {
-        offset: 0,
-        length: 0,
-    };
-    Config {
-        base: 0,
-        memory: Memory { length: 0 },
-        list: 0,
-        kind: 0,
-        page0: 0,
-        page1: 0,
-        vectors: 0,
-        dataqueues: 0,
-        count: 0,
-        regions: 0,
-        sizes: [0u16; MAX_QUEUES],
-        table: [none; MAX_REGIONS],
-    }
-}
+impl Default for Config {
+    ghost is_default = { λ c. c ≡ no_config };
 
-/// What an accepted configuration comes to, or the refusal's number: 2 to 6.
-pub fn configure(c: Configuration) -> Configured
-    ensures { result ≡ configured c }
-{
-    let refusal = refusal_of(c);
-    if refusal == 0 {
-        let config = accept(c);
-        return Configured { refusal: 0, config };
-    }
-    let config = no_config();
-    Configured { refusal, config }
-}
-
-/// Nothing active, registered or enabled.
-pub fn no_flags() -> Flags
-    ensures { result ≡ no_flags }
-{
-    Flags {
-        active: false,
-        registered: false,
-        enabled: false,
-    }
-}
-
-/// Nothing held.
-pub fn no_held() -> Held
-    ensures { result ≡ no_held }
-{
-    Held {
-        bell: false,
-        note: false,
-    }
-}
-
-/// A vector of zeros, not masked.
-pub fn no_vector() -> Vector
-    ensures { result ≡ no_vector }
-{
-    Vector {
-        low: 0,
-        high: 0,
-        message: 0,
-        masked: false,
+    fn default() -> Config {
+        Config {
+            base: 0,
+            memory: Memory { length: 0 },
+            list: 0,
+            kind: 0,
+            page0: 0,
+            page1: 0,
+            vectors: 0,
+            dataqueues: 0,
+            count: 0,
+            regions: 0,
+            sizes: [0; MAX_QUEUES],
+            table: [Region::default(); MAX_REGIONS],
+        }
     }
 }

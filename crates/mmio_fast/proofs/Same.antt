@@ -10,12 +10,12 @@ use lib.Dec.{eqb, ltb, lit≤}
 use lib.ListN.{length}
 use Rattle.words.specs.Pick.{pick}
 use Rattle.words.specs.Bytes.{bytes_of, read_le, write_le}
-use Rattle.registers.specs.declared.ReadRegister.TheVariants as R
 use Rattle.mmio_state.specs.State.{State, with_hot}
 use Rattle.mmio_state.specs.Effect.{room_words}
 use Rattle.mmio_access.specs.Changes.{with_interrupts, cleared}
 use Rattle.mmio_v2.specs.Operation.{Operation, Read, Write, Raise}
-use Rattle.mmio_v2.specs.Registers.{shows}
+use Rattle.mmio_access.specs.Shown.{tweaked}
+use Rattle.mmio_state.specs.Fields.{selected_ready}
 use Rattle.mmio_v2.specs.Step.{Outcome, refusing, operated, step, replied, answer_of}
 use Rattle.mmio_v2.specs.declared.Answer.{Answer}
 use Rattle.mmio_v2.specs.declared.MmioV2Device.{MmioV2Device}
@@ -52,10 +52,10 @@ wrote s bs c d =
     pick c (done (cleared s.hot.interrupts (read_le 4 bs))) (pick d (done s.hot.interrupts) (slow s.hot.interrupts))
 
 abbrev polled : State → Bool → Bool → Quick
-polled s c d = pick c (done (shows s R.InterruptStatus).value) (pick d (done s.hot.status) (slow 0))
+polled s c d = pick c (done (tweaked s.hot.vendor s.hot.interrupts)) (pick d (done s.hot.status) (slow 0))
 
 abbrev ready : State → Bool → Quick
-ready s c = pick c (done (shows s R.QueueReady).value) (slow 0)
+ready s c = pick c (done (selected_ready s)) (slow 0)
 
 module _ (s : State) (k o : ℕ) where
   pub write_same : (bs : List ℕ) (w : ℕ) → (quick_write s.hot o bs w).done ≡ true

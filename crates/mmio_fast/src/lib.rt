@@ -21,11 +21,12 @@ use registers::{
     REG_MMIO_STATUS,
 };
 use virtq::{Field, MAX_QUEUES, Queue, QueueIndex};
+use words::{LittleEndian, Refusal};
 
 /// What is told of an operation beside the device: refusal 7 or 0, how many reply bytes were written (0: there is no
 /// reply), and the number of action records. Two registers' worth, so that it comes back without memory.
 #[repr(C)]
-#[derive(Clone, Copy)]
+#[derive(Clone, Copy, PartialEq, Eq, Debug)]
 pub struct Told {
     pub refusal: u32,
     pub reply: u32,
@@ -40,10 +41,11 @@ pub struct Wrote {
     pub device: MmioV2Device,
 }
 
+// Kept as a flag beside its number: a poll hands it to C in one register, and a write's number is used where it is not done, too.
 /// Whether the short way is enough, and its one number: a register's word, or the interrupt bits after a write. Where it is
 /// not enough, a write's number is the interrupt bits as they are, so that they may be stored without asking.
 #[repr(C)]
-#[derive(Clone, Copy)]
+#[derive(Clone, Copy, PartialEq, Eq, Debug)]
 pub struct Quick {
     pub value: u32,
     pub done: bool,
@@ -51,7 +53,7 @@ pub struct Quick {
 
 /// A raise whole: the interrupt bits after it, and what is told.
 #[repr(C)]
-#[derive(Clone, Copy)]
+#[derive(Clone, Copy, PartialEq, Eq, Debug)]
 pub struct Raised {
     pub bits: u32,
     pub told: Told,
@@ -76,44 +78,37 @@ fn cleared(bits: u32, v: u32) -> u32
 }
 
 /// A write to a polled register: 064 clears interrupt bits, 050 is the host's. Nothing else changes, and nothing is asked.
+#[tactic(auto, unfolding(crate::specs::Quick::quick_write))]
 pub fn quick_write(h: Hot, offset: u64, bytes: &[u8], room: usize) -> Quick
     ensures { result ≡ quick_write h offset bytes.now room }
 {
-    if room < ACTION_WORDS {
+    if room < ACTION_WORDS || bytes.len() != 4 {
         return slow(h.interrupts);
     }
-    if bytes.len() == 4 {
-        if offset == REG_MMIO_INTERRUPT_AC {
-            return done(cleared(h.interrupts, words::read_u32(bytes)));
-        }
-        if offset == REG_MMIO_QUEUE_NOTIF {
-            return done(h.interrupts);
-        }
-        return slow(h.interrupts);
+    match offset {
+        REG_MMIO_INTERRUPT_AC => done(cleared(h.interrupts, u32::read(bytes))),
+        REG_MMIO_QUEUE_NOTIF => done(h.interrupts),
+        _ => slow(h.interrupts),
     }
-    slow(h.interrupts)
 }
 
 /// A read of a polled register: 060 or 070.
+#[tactic(auto, unfolding(crate::specs::Quick::quick_read))]
 pub fn quick_read(h: Hot, offset: u64, len: usize, room: usize) -> Quick
     ensures { result ≡ quick_read h offset len room }
 {
-    if room < ACTION_WORDS {
+    if room < ACTION_WORDS || len != 4 {
         return slow(0);
     }
-    if len == 4 {
-        if offset == REG_MMIO_INTERRUPT_STAT {
-            return done(mmio_access::tweak_intr_flags(h.vendor, h.interrupts));
-        }
-        if offset == REG_MMIO_STATUS {
-            return done(h.status);
-        }
-        return slow(0);
+    match offset {
+        REG_MMIO_INTERRUPT_STAT => done(mmio_access::tweak_intr_flags(h.vendor, h.interrupts)),
+        REG_MMIO_STATUS => done(h.status),
+        _ => slow(0),
     }
-    slow(0)
 }
 
 /// A read of 044, from the table of queues.
+#[tactic(auto, unfolding(crate::specs::Quick::quick_ready))]
 pub fn quick_ready(
     h: Hot,
     count: u32,
@@ -124,16 +119,10 @@ pub fn quick_ready(
 ) -> Quick
     ensures { result ≡ quick_ready h count queues offset len room }
 {
-    if room < ACTION_WORDS {
+    if room < ACTION_WORDS || len != 4 || offset != REG_MMIO_QUEUE_READY {
         return slow(0);
     }
-    if len == 4 {
-        if offset == REG_MMIO_QUEUE_READY {
-            return done(mmio_tables::field_at(queues, QueueIndex(h.queue), count, Field::Ready));
-        }
-        return slow(0);
-    }
-    slow(0)
+    done(mmio_tables::field_at(queues, QueueIndex(h.queue), count, Field::Ready))
 }
 
 fn tell(refusal: u32, reply: u32, count: usize) -> Told
@@ -147,13 +136,15 @@ fn tell(refusal: u32, reply: u32, count: usize) -> Told
 }
 
 /// A raise: it touches the polled part alone, so this is all of it.
+#[tactic(auto, unfolding(crate::specs::Quick::quick_raise))]
 pub fn quick_raise(h: Hot, bits: u32, room: usize) -> Raised
     ensures { result ≡ quick_raise h bits room }
 {
     if room < ACTION_WORDS {
+        let told = tell(Refusal::ActionSpace.number(), 0, 0);
         return Raised {
             bits: h.interrupts,
-            told: tell(7, 0, 0),
+            told,
         };
     }
     Raised {
@@ -166,7 +157,7 @@ pub fn quick_raise(h: Hot, bits: u32, room: usize) -> Raised
 pub fn give(reply: &mut [u8], v: u32) -> Told
     ensures { (result ≡ tell 0 4 0) × (reply.new ≡ write_le 4 reply.old v) }
 {
-    words::write_u32(reply, v);
+    v.write(reply);
     tell(0, 4, 0)
 }
 

@@ -1,3 +1,2 @@
--- How the code comes to the definitions, and what each promise determines.
-pub mod Messaging
+-- What each promise determines.
 pub mod Determined

@@ -18,7 +18,7 @@ use virtq::VectorIndex;
 /// `features_select`, `acked_features_select`, `queue_select`, `shm_region_id`, whether a doorbell stands and whether
 /// MSI is on. Numbers only, and first in the device.
 #[repr(C)]
-#[derive(Clone, Copy)]
+#[derive(Clone, Copy, PartialEq, Eq, Debug, Default)]
 pub struct Hot {
     pub status: u32,
     pub interrupts: u32,
@@ -32,7 +32,7 @@ pub struct Hot {
 }
 
 /// What a write to the control register asks for.
-#[derive(Clone, Copy)]
+#[derive(Clone, Copy, PartialEq, Eq, Debug)]
 pub enum Csr {
     Locked,
     Stay,
@@ -40,7 +40,7 @@ pub enum Csr {
 }
 
 /// What a message command asks for.
-#[derive(Clone, Copy)]
+#[derive(Clone, Copy, PartialEq, Eq, Debug)]
 pub enum Command {
     Update(VectorIndex),
     Mask(VectorIndex),
@@ -54,62 +54,63 @@ fn with_failed(status: u32) -> u32
     ensures { result ≡ failed status }
 {
     if status / 128 % 2 == 1 {
-        return status;
+        status
+    } else {
+        status + 128
     }
-    status + 128
 }
 
 impl Hot {
     /// FAILED set.
-    pub fn fail(mut self) -> Self
+    pub fn fail(self) -> Self
         ensures { result ≡ with_status self (failed self.status) }
     {
-        self.status = with_failed(self.status);
-        self
+        Hot {
+            status: with_failed(self.status),
+            ..self
+        }
     }
 
     /// The page of features that 010 reads.
-    pub fn set_features_select(mut self, v: u32) -> Self
+    pub fn set_features_select(self, v: u32) -> Self
         ensures { result ≡ selecting self v self.ackpage self.queue self.region }
     {
-        self.page = v;
-        self
+        Hot { page: v, ..self }
     }
 
     /// The page of features that 020 acknowledges.
-    pub fn set_acked_features_select(mut self, v: u32) -> Self
+    pub fn set_acked_features_select(self, v: u32) -> Self
         ensures { result ≡ selecting self self.page v self.queue self.region }
     {
-        self.ackpage = v;
-        self
+        Hot { ackpage: v, ..self }
     }
 
     /// The queue that the queue registers speak of.
-    pub fn set_queue_select(mut self, v: u32) -> Self
+    pub fn set_queue_select(self, v: u32) -> Self
         ensures { result ≡ selecting self self.page self.ackpage v self.region }
     {
-        self.queue = v;
-        self
+        Hot { queue: v, ..self }
     }
 
     /// The region that the region registers speak of.
-    pub fn set_shm_region_id(mut self, v: u32) -> Self
+    pub fn set_shm_region_id(self, v: u32) -> Self
         ensures { result ≡ selecting self self.page self.ackpage self.queue v }
     {
-        self.region = v;
-        self
+        Hot { region: v, ..self }
     }
 
     /// After a state reset.
-    pub fn wiped(mut self) -> Self
+    pub fn wiped(self) -> Self
         ensures { result ≡ wiped_hot self }
     {
-        self.page = 0;
-        self.ackpage = 0;
-        self.queue = 0;
-        self.doorbell = false;
-        self.msi = false;
-        self
+        Hot {
+            page: 0,
+            ackpage: 0,
+            queue: 0,
+            doorbell: false,
+            msi: false,
+            ..self
+        }
     }
 }
 
@@ -119,19 +120,14 @@ impl Hot {
 pub fn csr_of(status: u32, v: u16, msi: bool) -> Csr
     ensures { result ≡ csr_of status v msi }
 {
+    let on = v / 32768 % 2 == 1;
     if status / 4 % 2 == 1 {
-        return Csr::Locked;
+        Csr::Locked
+    } else if on == msi {
+        Csr::Stay
+    } else {
+        Csr::Turn(on)
     }
-    if v / 32768 % 2 == 1 {
-        if msi {
-            return Csr::Stay;
-        }
-        return Csr::Turn(true);
-    }
-    if msi {
-        return Csr::Turn(false);
-    }
-    Csr::Stay
 }
 
 /// What a write to the MSI command register asks for.

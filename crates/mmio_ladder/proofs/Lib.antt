@@ -1,4 +1,3 @@
 -- How the code comes to the definitions, and what each promise determines.
-pub mod Marking
 pub mod Keeping
 pub mod Determined

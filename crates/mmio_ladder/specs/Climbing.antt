@@ -33,4 +33,4 @@ climbing s v k = laddered s k (move_of v s.hot.status s.flags.active)
 
 -- the code's answer with another status
 abbrev pub marked : Done → (status : ℕ) → Done
-marked d v = record { state = status_set d.state v; refusal = d.refusal; ok = d.ok; count = d.count }
+marked d v = record { state = status_set d.state v; ok = d.ok; count = d.count }

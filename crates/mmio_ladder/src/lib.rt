@@ -7,15 +7,15 @@
 
 #![tactic(auto)]
 
-ghost use Rattle.std.specs.Prelude.{◌≡◌, true, false, ◌≤◌, length};
+ghost use Rattle.std.specs.Prelude.{◌≡◌, length};
 ghost use Rattle.words.specs.Pick.{pick};
-ghost use Rattle.tape.specs.Play.{laid};
-ghost use Rattle.mmio_state.specs.Effect.{done, ended, written};
-ghost use Rattle.mmio_ladder.specs.Ladder.{down_move, from, move_of, other_move, status_after};
+ghost use Rattle.mmio_state.specs.Effect.{done, written};
+ghost use Rattle.mmio_ladder.specs.Ladder.{down_move, from, move_of, status_after};
 ghost use Rattle.mmio_ladder.specs.Climbing.{climbing, laddered, marked, status_set};
 
 use mmio_hot::Hot;
-use mmio_state::{ACTION_WORDS, Done, MmioV2DeviceState};
+use mmio_state::{Done, MmioV2DeviceState};
+use words::Refusal;
 
 pub const DEVICE_STATUS_INIT: u32 = 0x0;
 
@@ -28,7 +28,7 @@ pub const DEVICE_STATUS_FEATURE_OK: u32 = 0xb;
 pub const DEVICE_STATUS_DRIVER_OK: u32 = 0xf;
 
 /// What a value written to the status register asks for.
-#[derive(Clone, Copy)]
+#[derive(Clone, Copy, PartialEq, Eq, Debug)]
 pub enum Move {
     /// The next rung, which asks nothing of the device.
     Take(u32),
@@ -42,43 +42,23 @@ pub enum Move {
     Fail,
 }
 
-fn climb(below: u32, status: u32, v: u32) -> Move
-    ensures { result ≡ from below status (Move.Take v) }
+// The move if the status is this one exactly.
+fn only_from(rung: u32, status: u32, m: Move) -> Move
+    ensures { result ≡ from rung status m }
 {
-    if status == below {
-        return Move::Take(v);
-    }
-    Move::Fail
-}
-
-fn top(status: u32) -> Move
-    ensures { result ≡ from 0xb status Move.Start }
-{
-    if status == DEVICE_STATUS_FEATURE_OK {
-        return Move::Start;
-    }
-    Move::Fail
+    if status == rung { m } else { Move::Fail }
 }
 
 fn down(status: u32, active: bool) -> Move
     ensures { result ≡ down_move status active }
 {
     if status == DEVICE_STATUS_INIT {
-        return Move::Stay;
+        Move::Stay
+    } else if active {
+        Move::Reset
+    } else {
+        Move::Fail
     }
-    if active {
-        return Move::Reset;
-    }
-    Move::Fail
-}
-
-fn other(v: u32, status: u32) -> Move
-    ensures { result ≡ other_move v status }
-{
-    if v == status {
-        return Move::Stay;
-    }
-    Move::Fail
 }
 
 /// The move that a written value asks for, at this status.
@@ -86,93 +66,76 @@ pub fn move_of(v: u32, status: u32, active: bool) -> Move
     ensures { result ≡ move_of v status active }
 {
     match v {
-        DEVICE_STATUS_ACKNOWLEDE => climb(DEVICE_STATUS_INIT, status, DEVICE_STATUS_ACKNOWLEDE),
-        DEVICE_STATUS_DRIVER => climb(DEVICE_STATUS_ACKNOWLEDE, status, DEVICE_STATUS_DRIVER),
-        DEVICE_STATUS_FEATURE_OK => climb(DEVICE_STATUS_DRIVER, status, DEVICE_STATUS_FEATURE_OK),
-        DEVICE_STATUS_DRIVER_OK => top(status),
+        DEVICE_STATUS_ACKNOWLEDE => only_from(DEVICE_STATUS_INIT, status, Move::Take(v)),
+        DEVICE_STATUS_DRIVER => only_from(DEVICE_STATUS_ACKNOWLEDE, status, Move::Take(v)),
+        DEVICE_STATUS_FEATURE_OK => only_from(DEVICE_STATUS_DRIVER, status, Move::Take(v)),
+        DEVICE_STATUS_DRIVER_OK => only_from(DEVICE_STATUS_FEATURE_OK, status, Move::Start),
         DEVICE_STATUS_INIT => down(status, active),
-        _ => other(v, status),
+        _ => only_from(v, status, Move::Stay),
     }
 }
 
 fn start_status(ok: bool) -> u32
     ensures { result ≡ pick ok 0xf 0x8f }
 {
-    if ok {
-        return DEVICE_STATUS_DRIVER_OK;
-    }
-    0x8f
+    if ok { DEVICE_STATUS_DRIVER_OK } else { 0x8f }
 }
 
 fn reset_status(h: Hot, ok: bool) -> u32
     ensures { result ≡ status_after Move.Reset h.status ok }
 {
-    let f = h.fail();
-    if ok {
-        if h.status == DEVICE_STATUS_DRIVER_OK {
-            return DEVICE_STATUS_INIT;
-        }
-        return f.status;
+    if ok && h.status == DEVICE_STATUS_DRIVER_OK {
+        DEVICE_STATUS_INIT
+    } else {
+        h.fail().status
     }
-    f.status
 }
 
-fn set_status(s: MmioV2DeviceState, v: u32) -> MmioV2DeviceState
+fn set_status(mut s: MmioV2DeviceState, v: u32) -> MmioV2DeviceState
     ensures { result ≡ status_set s v }
 {
-    let mut u = s;
-    u.hot.status = v;
-    u
+    s.hot.status = v;
+    s
 }
 
-fn mark(d: Done, v: u32) -> Done
+fn mark(mut d: Done, v: u32) -> Done
     ensures { result ≡ marked d v }
 {
-    let s = d.state;
-    let u = set_status(s, v);
-    Done {
-        state: u,
-        refusal: d.refusal,
-        ok: d.ok,
-        count: d.count,
-    }
+    d.state.hot.status = v;
+    d
 }
 
-fn start(s: MmioV2DeviceState, k: u32, actions: &mut [u64]) -> Done
-    requires { 320 ≤ length actions.old }
-    ensures value { result ≡ ended (laddered s k Move.Start) }
-    ensures actions_after { actions.new ≡ laid actions.old (laddered s k Move.Start).actions }
+fn start(s: MmioV2DeviceState, k: u32, actions: &mut [u64]) -> Result<Done, Refusal>
+    ensures value { result ≡ done (length actions.old) (laddered s k Move.Start) }
+    ensures actions_after { actions.new ≡ written actions.old (laddered s k Move.Start) }
 {
-    let d = s.activate(k, actions);
-    mark(d, start_status(d.ok))
+    let d = s.activate(k, actions)?;
+    Ok(mark(d, start_status(d.ok)))
 }
 
-fn reset(s: MmioV2DeviceState, k: u32, actions: &mut [u64]) -> Done
-    requires { 320 ≤ length actions.old }
-    ensures value { result ≡ ended (laddered s k Move.Reset) }
-    ensures actions_after { actions.new ≡ laid actions.old (laddered s k Move.Reset).actions }
+fn reset(s: MmioV2DeviceState, k: u32, actions: &mut [u64]) -> Result<Done, Refusal>
+    ensures value { result ≡ done (length actions.old) (laddered s k Move.Reset) }
+    ensures actions_after { actions.new ≡ written actions.old (laddered s k Move.Reset) }
 {
-    let d = s.reset(k, actions);
-    let hot = s.hot;
-    mark(d, reset_status(hot, d.ok))
+    let d = s.reset(k, actions)?;
+    Ok(mark(d, reset_status(s.hot, d.ok)))
 }
 
 /// A write to the status register.
-pub fn update_driver_status(s: MmioV2DeviceState, v: u32, k: u32, actions: &mut [u64]) -> Done
-    ensures value { result ≡ done (length actions.old) s (climbing s v k) }
+pub fn update_driver_status(
+    s: MmioV2DeviceState,
+    v: u32,
+    k: u32,
+    actions: &mut [u64],
+) -> Result<Done, Refusal>
+    ensures value { result ≡ done (length actions.old) (climbing s v k) }
     ensures actions_after { actions.new ≡ written actions.old (climbing s v k) }
 {
-    if actions.len() < ACTION_WORDS {
-        return mmio_state::refuse(s);
-    }
     match move_of(v, s.hot.status, s.flags.active) {
-        Move::Take(w) => mmio_state::quiet_done(set_status(s, w), true),
+        Move::Take(w) => mmio_state::ask_nothing(set_status(s, w), true, actions),
         Move::Start => start(s, k, actions),
         Move::Reset => reset(s, k, actions),
-        Move::Stay => mmio_state::quiet_done(s, true),
-        Move::Fail => {
-            let u = s.set_driver_failed();
-            mmio_state::quiet_done(u, false)
-        }
+        Move::Stay => mmio_state::ask_nothing(s, true, actions),
+        Move::Fail => mmio_state::ask_nothing(s.set_driver_failed(), false, actions),
     }
 }

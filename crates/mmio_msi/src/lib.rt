@@ -6,23 +6,20 @@
 
 #![tactic(auto)]
 
-ghost use Rattle.std.specs.Prelude.{◌≡◌, true, false, ◌&&◌, [], ◌∷◌, ◌%◌, ◌^◌, ◌<◌, ◌≤◌, length};
-ghost use Rattle.words.specs.Pick.{pick};
+ghost use Rattle.std.specs.Prelude.{◌≡◌, ◌&&◌, ◌<◌, length};
 ghost use Rattle.msi.specs.Stage.{with_address_high, with_address_low, with_data};
-ghost use Rattle.tape.specs.Actions.{act, set_mode};
-ghost use Rattle.tape.specs.Play.{laid};
+ghost use Rattle.tape.specs.Actions.{act};
 ghost use Rattle.mmio_tables.specs.Tables.{updatable, vector_at};
-ghost use Rattle.mmio_state.specs.State.{with_vectors};
-ghost use Rattle.mmio_state.specs.Effect.{done, ended, written};
+ghost use Rattle.mmio_state.specs.Effect.{done, written};
 ghost use Rattle.mmio_msi.specs.Messages.{asks_mask, commanded, commanding, controlled, enabling, masking, staged, turned, updated_state};
 
-use mmio_config::{Config, MAX_VECTORS, Vector};
+use mmio_config::Config;
 use mmio_hot::{Command, Csr};
-use mmio_state::{ACTION_WORDS, Done, MmioV2DeviceState};
+use mmio_state::{Done, MmioV2DeviceState};
 use msi::Msi;
 use tape::{ACTION_MASK, ACTION_MODE, ACTION_UNMASK, ACTION_UPDATE};
 use virtq::VectorIndex;
-use words::Action;
+use words::{Action, Refusal};
 
 fn told(kind: u64, v: u64) -> Action
     ensures { result ≡ act kind v 0 0 0 }
@@ -36,99 +33,54 @@ fn told(kind: u64, v: u64) -> Action
     }
 }
 
-fn staged(s: MmioV2DeviceState, m: Msi) -> MmioV2DeviceState
+fn staged(mut s: MmioV2DeviceState, m: Msi) -> MmioV2DeviceState
     ensures { result ≡ staged s m }
 {
     if s.hot.msi {
-        let mut u = s;
-        u.stage = m;
-        return u;
+        s.stage = m;
     }
     s
 }
 
-fn turned(s: MmioV2DeviceState, msi: bool) -> MmioV2DeviceState
+fn turned(mut s: MmioV2DeviceState, msi: bool) -> MmioV2DeviceState
     ensures { result ≡ turned s msi }
 {
-    let none = Msi::default();
-    let mut u = s;
-    u.hot.msi = msi;
-    u.stage = none;
-    u
-}
-
-fn mode(msi: bool) -> u64
-    ensures { result ≡ pick msi 1 0 }
-{
-    if msi {
-        return 1;
-    }
-    0
+    s.hot.msi = msi;
+    s.stage = Msi::default();
+    s
 }
 
 // One request: what is kept of it depends on its answer.
-fn turn(s: MmioV2DeviceState, msi: bool, k: u32, actions: &mut [u64]) -> Done
-    requires { 320 ≤ length actions.old }
-    ensures value { result ≡ ended (controlled s k (Csr.Turn msi)) }
-    ensures actions_after { actions.new ≡ laid actions.old (set_mode msi ∷ []) }
+fn turn(s: MmioV2DeviceState, msi: bool, k: u32, actions: &mut [u64]) -> Result<Done, Refusal>
+    ensures value { result ≡ done (length actions.old) (controlled s k (Csr.Turn msi)) }
+    ensures actions_after { actions.new ≡ written actions.old (controlled s k (Csr.Turn msi)) }
 {
-    words::append(actions, 0, told(ACTION_MODE, mode(msi)));
-    if k == 0 {
-        let u = s.set_driver_failed();
-        return Done {
-            state: u,
-            refusal: 0,
-            ok: false,
-            count: 1,
-        };
-    }
-    let u = turned(s, msi);
-    Done {
-        state: u,
-        refusal: 0,
-        ok: true,
-        count: 1,
-    }
+    let u = if k == 0 {
+        s.set_driver_failed()
+    } else {
+        turned(s, msi)
+    };
+    mmio_state::tell(u, k != 0, told(ACTION_MODE, u64::from(msi)), actions)
 }
 
 fn heeded(dataqueues: u32, msi: bool, v: VectorIndex) -> bool
     ensures { result ≡ updatable dataqueues v.0 && msi }
 {
-    if mmio_tables::may_update(dataqueues, v) {
-        return msi;
-    }
-    false
+    mmio_tables::may_update(dataqueues, v) && msi
 }
 
-fn with_vectors(s: MmioV2DeviceState, m: Msi, vectors: [Vector; MAX_VECTORS]) -> MmioV2DeviceState
-    ensures { result ≡ with_vectors s m vectors }
-{
-    let mut u = s;
-    u.stage = m;
-    u.vectors = vectors;
-    u
-}
-
-// A command's argument has twelve bits.
-fn index_of(v: VectorIndex) -> u32
-    ensures { result ≡ v.0 % 2 ^ 32 }
-{
-    (v.0 % 0x1_0000_0000) as u32
-}
-
-// The index kept, and the message stored if the vector exists.
-fn update_state(s: MmioV2DeviceState, v: VectorIndex) -> MmioV2DeviceState
+// The index kept, and the message stored if the vector exists. A command's argument has twelve bits.
+fn update_state(mut s: MmioV2DeviceState, v: VectorIndex) -> MmioV2DeviceState
     requires { v.0 < 4096 }
     ensures { result ≡ updated_state s v.0 }
 {
     if heeded(s.config.dataqueues, s.hot.msi, v) {
-        let stage = s.stage;
-        let m = stage.staged_index_select(index_of(v));
-        let vectors = s.vectors;
+        let m = s.stage.staged_index_select(v.0 as u32);
+        s.stage = m;
         if mmio_tables::vector_exists(v, s.config.vectors) {
-            return with_vectors(s, m, mmio_tables::store_at(vectors, v, m));
+            let vectors = mmio_tables::store_at(s.vectors, v, m);
+            s.vectors = vectors;
         }
-        return with_vectors(s, m, vectors);
     }
     s
 }
@@ -136,147 +88,108 @@ fn update_state(s: MmioV2DeviceState, v: VectorIndex) -> MmioV2DeviceState
 fn asks_update(c: Config, msi: bool, enabled: bool, v: VectorIndex) -> bool
     ensures { result ≡ ((updatable c.dataqueues v.0 && msi) && vector_at v.0 c.vectors) && enabled }
 {
-    if heeded(c.dataqueues, msi, v) {
-        if mmio_tables::vector_exists(v, c.vectors) {
-            return enabled;
-        }
-        return false;
-    }
-    false
+    heeded(c.dataqueues, msi, v) && mmio_tables::vector_exists(v, c.vectors) && enabled
 }
 
-fn update_msi_cfg(s: MmioV2DeviceState, v: VectorIndex, k: u32, actions: &mut [u64]) -> Done
-    requires { (320 ≤ length actions.old) × (v.0 < 4096) }
-    ensures value { result ≡ ended (commanded s k (Command.Update v)) }
-    ensures actions_after { actions.new ≡ laid actions.old (commanded s k (Command.Update v)).actions }
+fn update_msi_cfg(
+    s: MmioV2DeviceState,
+    v: VectorIndex,
+    k: u32,
+    actions: &mut [u64],
+) -> Result<Done, Refusal>
+    requires { v.0 < 4096 }
+    ensures value { result ≡ done (length actions.old) (commanded s k (Command.Update v)) }
+    ensures actions_after { actions.new ≡ written actions.old (commanded s k (Command.Update v)) }
 {
     let u = update_state(s, v);
-    let config = s.config;
-    if asks_update(config, s.hot.msi, s.flags.enabled, v) {
-        words::append(actions, 0, told(ACTION_UPDATE, v.0));
-        return Done {
-            state: u,
-            refusal: 0,
-            ok: k != 0,
-            count: 1,
-        };
-    }
-    Done {
-        state: u,
-        refusal: 0,
-        ok: true,
-        count: 0,
+    if asks_update(s.config, s.hot.msi, s.flags.enabled, v) {
+        mmio_state::tell(u, k != 0, told(ACTION_UPDATE, v.0), actions)
+    } else {
+        mmio_state::ask_nothing(u, true, actions)
     }
 }
 
 fn asks_mask(s: MmioV2DeviceState, v: VectorIndex, mask: bool) -> bool
     ensures { result ≡ asks_mask s v.0 mask }
 {
-    let vectors = s.vectors;
-    if s.flags.enabled {
-        if mmio_tables::vector_exists(v, s.config.vectors) {
-            if mmio_tables::is_masked(vectors, v) {
-                return !mask;
-            }
-            return mask;
-        }
-        return false;
-    }
-    false
+    s.flags.enabled
+        && mmio_tables::vector_exists(v, s.config.vectors)
+        && mmio_tables::is_masked(s.vectors, v) != mask
 }
 
 fn mask_msi_int(
-    s: MmioV2DeviceState,
+    mut s: MmioV2DeviceState,
     v: VectorIndex,
     mask: bool,
     kind: u64,
     k: u32,
     actions: &mut [u64],
-) -> Done
-    requires { 320 ≤ length actions.old }
-    ensures value { result ≡ ended (masking s v.0 mask (act kind v.0 0 0 0) k) }
-    ensures actions_after { actions.new ≡ laid actions.old (masking s v.0 mask (act kind v.0 0 0 0) k).actions }
+) -> Result<Done, Refusal>
+    ensures value { result ≡ done (length actions.old) (masking s v.0 mask (act kind v.0 0 0 0) k) }
+    ensures actions_after { actions.new ≡ written actions.old (masking s v.0 mask (act kind v.0 0 0 0) k) }
 {
-    if asks_mask(s, v, mask) {
-        words::append(actions, 0, told(kind, v.0));
-        if k == 0 {
-            return Done {
-                state: s,
-                refusal: 0,
-                ok: false,
-                count: 1,
-            };
-        }
-        let vectors = s.vectors;
-        let stage = s.stage;
-        let u = with_vectors(s, stage, mmio_tables::mask_at(vectors, v, mask));
-        return Done {
-            state: u,
-            refusal: 0,
-            ok: true,
-            count: 1,
-        };
+    if !asks_mask(s, v, mask) {
+        return mmio_state::ask_nothing(s, true, actions);
     }
-    mmio_state::quiet_done(s, true)
+    if k != 0 {
+        let vectors = mmio_tables::mask_at(s.vectors, v, mask);
+        s.vectors = vectors;
+    }
+    mmio_state::tell(s, k != 0, told(kind, v.0), actions)
 }
 
 /// The low half of the staged address: kept only while MSI is on.
 pub fn set_msi_address_low(s: MmioV2DeviceState, v: u32) -> MmioV2DeviceState
     ensures { result ≡ staged s (with_address_low s.stage v) }
 {
-    let stage = s.stage;
-    staged(s, stage.staged_address_low(v))
+    staged(s, s.stage.staged_address_low(v))
 }
 
 /// The high half of the staged address: kept only while MSI is on.
 pub fn set_msi_address_high(s: MmioV2DeviceState, v: u32) -> MmioV2DeviceState
     ensures { result ≡ staged s (with_address_high s.stage v) }
 {
-    let stage = s.stage;
-    staged(s, stage.staged_address_high(v))
+    staged(s, s.stage.staged_address_high(v))
 }
 
 /// The staged data: kept only while MSI is on.
 pub fn set_msi_data(s: MmioV2DeviceState, v: u32) -> MmioV2DeviceState
     ensures { result ≡ staged s (with_data s.stage v) }
 {
-    let stage = s.stage;
-    staged(s, stage.staged_data(v))
+    staged(s, s.stage.staged_data(v))
 }
 
 /// The interrupt mode: 0c0.
-pub fn update_msi_enable(s: MmioV2DeviceState, v: u16, k: u32, actions: &mut [u64]) -> Done
-    ensures value { result ≡ done (length actions.old) s (enabling s v k) }
+pub fn update_msi_enable(
+    s: MmioV2DeviceState,
+    v: u16,
+    k: u32,
+    actions: &mut [u64],
+) -> Result<Done, Refusal>
+    ensures value { result ≡ done (length actions.old) (enabling s v k) }
     ensures actions_after { actions.new ≡ written actions.old (enabling s v k) }
 {
-    if actions.len() < ACTION_WORDS {
-        return mmio_state::refuse(s);
-    }
     match mmio_hot::csr_of(s.hot.status, v, s.hot.msi) {
-        Csr::Locked => {
-            let u = s.set_driver_failed();
-            mmio_state::quiet_done(u, false)
-        }
-        Csr::Stay => mmio_state::quiet_done(s, true),
+        Csr::Locked => mmio_state::ask_nothing(s.set_driver_failed(), false, actions),
+        Csr::Stay => mmio_state::ask_nothing(s, true, actions),
         Csr::Turn(m) => turn(s, m, k, actions),
     }
 }
 
 /// A message command: 0c2.
-pub fn handle_msi_cmd(s: MmioV2DeviceState, v: u16, k: u32, actions: &mut [u64]) -> Done
-    ensures value { result ≡ done (length actions.old) s (commanding s v k) }
+pub fn handle_msi_cmd(
+    s: MmioV2DeviceState,
+    v: u16,
+    k: u32,
+    actions: &mut [u64],
+) -> Result<Done, Refusal>
+    ensures value { result ≡ done (length actions.old) (commanding s v k) }
     ensures actions_after { actions.new ≡ written actions.old (commanding s v k) }
 {
-    if actions.len() < ACTION_WORDS {
-        return mmio_state::refuse(s);
-    }
     match mmio_hot::command_at(v) {
         Command::Update(w) => update_msi_cfg(s, w, k, actions),
         Command::Mask(w) => mask_msi_int(s, w, true, ACTION_MASK, k, actions),
         Command::Unmask(w) => mask_msi_int(s, w, false, ACTION_UNMASK, k, actions),
-        Command::Other => {
-            let u = s.set_driver_failed();
-            mmio_state::quiet_done(u, false)
-        }
+        Command::Other => mmio_state::ask_nothing(s.set_driver_failed(), false, actions),
     }
 }

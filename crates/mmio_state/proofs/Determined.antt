@@ -1,7 +1,9 @@
 -- Any two results that a promise of this floor allows are equal, and so are the lent words at the end.
 use mathlib.Core.Path.{◌≡◌, sym, ◌∙◌}
-use Rattle.mmio_state.proofs.refuse.Reads as refuse-promise
+use Rattle.mmio_state.proofs.enough.Reads as enough-promise
 use Rattle.mmio_state.proofs.quiet_done.Reads as quiet-done-promise
+use Rattle.mmio_state.proofs.ask_nothing.Reads as ask-nothing-promise
+use Rattle.mmio_state.proofs.tell.Reads as tell-promise
 use Rattle.mmio_state.proofs.MmioV2DeviceState.new.Reads as new-promise
 use Rattle.mmio_state.proofs.MmioV2DeviceState.set_driver_failed.Reads as set-driver-failed-promise
 use Rattle.mmio_state.proofs.MmioV2DeviceState.check_queues_valid.Reads as check-queues-valid-promise
@@ -15,13 +17,16 @@ use Rattle.mmio_state.proofs.MmioV2DeviceState.held_entry.Reads as held-entry-pr
 use Rattle.mmio_state.proofs.MmioV2DeviceState.activate.Reads as activate-promise
 use Rattle.mmio_state.proofs.MmioV2DeviceState.set_acked_features.Reads as set-acked-features-promise
 use Rattle.mmio_state.proofs.MmioV2DeviceState.reset.Reads as reset-promise
-use Rattle.mmio_state.proofs.MmioV2DeviceState.none.Reads as none-promise
+use Rattle.mmio_state.proofs.MmioV2DeviceStateDefault.default.Reads as default-promise
 
-pub refuse-determined : (κs : _) (a : _) (r r' : _) (s s' : _) → refuse-promise.Post κs a r s → refuse-promise.Post κs a r' s' → r ≡ r'
-refuse-determined κs a r r' s s' p q = p ∙ sym q
+pub enough-determined : (κs : _) (a : _) (r r' : _) (s s' : _) → enough-promise.Post κs a r s → enough-promise.Post κs a r' s' → r ≡ r'
+enough-determined κs a r r' s s' p q = p ∙ sym q
 
 pub quiet-done-determined : (κs : _) (a : _) (r r' : _) (s s' : _) → quiet-done-promise.Post κs a r s → quiet-done-promise.Post κs a r' s' → r ≡ r'
 quiet-done-determined κs a r r' s s' p q = p ∙ sym q
+
+pub tell-determined : (κs : _) (a : _) (r r' : _) (s s' : _) → tell-promise.Post κs a r s → tell-promise.Post κs a r' s' → (r ≡ r') × (s.1.1.1.0.now ≡ s'.1.1.1.0.now)
+tell-determined κs a r r' s s' p q = (p.0 ∙ sym q.0, p.1 ∙ sym q.1)
 
 pub new-determined : (κs : _) (a : _) (r r' : _) (s s' : _) → new-promise.Post κs a r s → new-promise.Post κs a r' s' → r ≡ r'
 new-determined κs a r r' s s' p q = p ∙ sym q
@@ -62,5 +67,8 @@ set-acked-features-determined κs a r r' s s' p q = (p.0 ∙ sym q.0, p.1 ∙ sy
 pub reset-determined : (κs : _) (a : _) (r r' : _) (s s' : _) → reset-promise.Post κs a r s → reset-promise.Post κs a r' s' → (r ≡ r') × (s.1.1.0.now ≡ s'.1.1.0.now)
 reset-determined κs a r r' s s' p q = (p.0 ∙ sym q.0, p.1 ∙ sym q.1)
 
-pub none-determined : (κs : _) (a : _) (r r' : _) (s s' : _) → none-promise.Post κs a r s → none-promise.Post κs a r' s' → r ≡ r'
-none-determined κs a r r' s s' p q = p ∙ sym q
+pub default-determined : (κs : _) (a : _) (r r' : _) (s s' : _) → default-promise.Post κs a r s → default-promise.Post κs a r' s' → r ≡ r'
+default-determined κs a r r' s s' p q = p ∙ sym q
+
+pub ask-nothing-determined : (κs : _) (a : _) (r r' : _) (s s' : _) → ask-nothing-promise.Post κs a r s → ask-nothing-promise.Post κs a r' s' → r ≡ r'
+ask-nothing-determined κs a r r' s s' p q = p ∙ sym q

@@ -1,15 +1,14 @@
 -- A fresh state (01, "What the gateway hands over"; the refusals and what is kept of a configuration are in mmio_config).
-use Rattle.std.specs.Prelude.{false, eqb, replicate}
-use Rattle.words.specs.Pick.{pick}
+use Rattle.std.specs.Prelude.{Result, false, replicate}
+use Rattle.words.specs.declared.Refusal.{Refusal}
 use Rattle.virtq.specs.Index.{max_queues}
 use Rattle.msi.specs.Stage.{no_message}
 use Rattle.tape.specs.Held.{no_held}
-use Rattle.mmio_config.specs.Fresh.{accepted, fresh_hot, fresh_queues, no_config, no_flags, no_vectors, refusal_of}
+use Rattle.mmio_config.specs.Fresh.{accepted, fresh_hot, fresh_queues, no_config, no_flags, no_vectors, refused_for, unless}
 use Rattle.mmio_config.specs.declared.Configuration.{Configuration}
 use Rattle.mmio_config.specs.declared.Config.{Config}
 use Rattle.mmio_hot.specs.declared.Hot.{Hot}
 use Rattle.mmio_state.specs.State.{State}
-use Rattle.mmio_state.specs.declared.Made.{Made}
 
 -- nothing active, nothing held, no message
 abbrev pub begun : Hot → Config → State
@@ -45,5 +44,5 @@ no_hot =
 abbrev pub no_state : State
 no_state = begun no_hot no_config
 
-unfoldable pub made : Configuration → Made
-made c = record { refusal = refusal_of c; state = pick (eqb (refusal_of c) 0) (fresh_state c) no_state }
+unfoldable pub made : Configuration → Result State Refusal
+made c = unless (refused_for c) (fresh_state c)

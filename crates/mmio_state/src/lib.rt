@@ -6,23 +6,22 @@
 
 #![tactic(auto)]
 
-ghost use Rattle.std.specs.Prelude.{◌≡◌, true, false, ◌≤◌, length};
+ghost use Rattle.std.specs.Prelude.{◌≡◌, length};
 ghost use Rattle.words.specs.Pick.{pick};
 ghost use Rattle.tape.specs.Actions.{ack_features};
-ghost use Rattle.tape.specs.Play.{laid};
 ghost use Rattle.mmio_state.specs.State.{failed_state};
-ghost use Rattle.mmio_state.specs.Effect.{done, ended, quiet, refused, written};
-ghost use Rattle.mmio_state.specs.Fresh.{begun, made, no_hot, no_state};
+ghost use Rattle.mmio_state.specs.Effect.{done, ended, quiet, room, telling, written};
+ghost use Rattle.mmio_state.specs.Fresh.{begun, made, no_state};
 ghost use Rattle.mmio_state.specs.Activation.{activating, queues_valid, resetting, settled, started, wiped};
-ghost use Rattle.mmio_state.specs.Fields.{acking, asked, asked_held, field_written, offered, selected_max, selected_ready, selected_region};
+ghost use Rattle.mmio_state.specs.Fields.{acking, answer_to, field_written, held_answer_to, offered, selected_max, selected_ready, selected_region};
 
-use mmio_config::{Config, Configuration, Flags, MAX_VECTORS, Vector};
+use mmio_config::{Config, Configuration, Flags, MAX_VECTORS, Region, Vector};
 use mmio_hot::Hot;
-use mmio_tables::{Found, Kind, Reply, Standing};
+use mmio_tables::{Kind, Standing};
 use msi::Msi;
 use tape::{ACTION_ACKED_FEATURES, Held, Tape};
 use virtq::{Field, MAX_QUEUES, Queue, QueueIndex};
-use words::Action;
+use words::{Action, Refusal};
 
 /// The words that every operation must be lent: five for each of the most records it can ask.
 pub const ACTION_WORDS: usize = 320;
@@ -40,21 +39,11 @@ pub struct MmioV2DeviceState {
     pub vectors: [Vector; MAX_VECTORS],
 }
 
-/// A fresh state, or the number of its refusal and a state of zeros.
-#[repr(C)]
-#[derive(Clone, Copy)]
-pub struct Made {
-    pub refusal: u32,
-    pub state: MmioV2DeviceState,
-}
-
-/// What came of an operation that asks something: the state, refusal 7 or 0, whether what was asked was accepted, and the
-/// number of action records.
-#[repr(C)]
+/// What came of an operation that asks something: the state, whether what was asked was accepted, and the number of action
+/// records.
 #[derive(Clone, Copy)]
 pub struct Done {
     pub state: MmioV2DeviceState,
-    pub refusal: u32,
     pub ok: bool,
     pub count: usize,
 }
@@ -64,91 +53,36 @@ pub struct Done {
 fn begun(hot: Hot, config: Config) -> MmioV2DeviceState
     ensures { result ≡ begun hot config }
 {
-    let sizes = config.sizes;
     MmioV2DeviceState {
         hot,
         config,
-        flags: mmio_config::no_flags(),
+        flags: Flags::default(),
         stage: Msi::default(),
-        queues: mmio_config::create_queues(sizes),
-        held: [mmio_config::no_held(); MAX_QUEUES],
-        vectors: [mmio_config::no_vector(); MAX_VECTORS],
+        queues: mmio_config::create_queues(config.sizes),
+        held: [Held::default(); MAX_QUEUES],
+        vectors: [Vector::default(); MAX_VECTORS],
     }
 }
 
-fn no_hot() -> Hot
-    ensures { result ≡ no_hot }
-{
-    Hot {
-        status: 0,
-        interrupts: 0,
-        vendor: 0,
-        page: 0,
-        ackpage: 0,
-        queue: 0,
-        region: 0,
-        doorbell: false,
-        msi: false,
+/// No device: every word 0.
+impl Default for MmioV2DeviceState {
+    ghost is_default = { λ s. s ≡ no_state };
+
+    fn default() -> MmioV2DeviceState {
+        begun(Hot::default(), Config::default())
     }
 }
 
-// ---- activation and reset
+// ---- what is asked
 
-fn start_state(s: MmioV2DeviceState, held: [Held; MAX_QUEUES]) -> MmioV2DeviceState
-    ensures { result ≡ started s held }
+/// Refusal 7 where fewer words are lent than every operation must be.
+pub fn enough(actions: &[u64]) -> Result<(), Refusal>
+    ensures { result ≡ room (length actions.now) }
 {
-    let flags = Flags {
-        active: true,
-        registered: true,
-        enabled: true,
-    };
-    let mut u = s;
-    u.flags = flags;
-    u.held = held;
-    u
-}
-
-fn wipe_state(s: MmioV2DeviceState, held: [Held; MAX_QUEUES]) -> MmioV2DeviceState
-    ensures { result ≡ wiped s held }
-{
-    let hot = s.hot;
-    let config = s.config;
-    let mut u = begun(hot.wiped(), config);
-    u.held = held;
-    u
-}
-
-fn settle(s: MmioV2DeviceState, t: Tape, ok: bool) -> Done
-    ensures { result ≡ record { state = settled s ok t.held; refusal = 0; ok = ok; count = t.count } }
-{
-    let held = t.held;
-    if ok {
-        let u = start_state(s, held);
-        return Done {
-            state: u,
-            refusal: 0,
-            ok: true,
-            count: t.count,
-        };
-    }
-    let u = wipe_state(s, held);
-    Done {
-        state: u,
-        refusal: 0,
-        ok: false,
-        count: t.count,
-    }
-}
-
-/// Refusal 7: the state as it was.
-pub fn refuse(s: MmioV2DeviceState) -> Done
-    ensures { result ≡ refused s }
-{
-    Done {
-        state: s,
-        refusal: 7,
-        ok: false,
-        count: 0,
+    if actions.len() < ACTION_WORDS {
+        Err(Refusal::ActionSpace)
+    } else {
+        Ok(())
     }
 }
 
@@ -158,77 +92,69 @@ pub fn quiet_done(s: MmioV2DeviceState, ok: bool) -> Done
 {
     Done {
         state: s,
-        refusal: 0,
         ok,
         count: 0,
     }
 }
 
-fn tape_of(held: [Held; MAX_QUEUES], k: u32) -> Tape
-    ensures { result ≡ record { count = 0; left = k; held = held } }
+/// The same, where enough words are lent.
+pub fn ask_nothing(s: MmioV2DeviceState, ok: bool, actions: &[u64]) -> Result<Done, Refusal>
+    ensures { result ≡ done (length actions.now) (quiet s ok) }
 {
-    Tape {
-        count: 0,
-        left: k,
-        held,
-    }
+    enough(actions)?;
+    Ok(quiet_done(s, ok))
 }
 
-fn attempt(s: MmioV2DeviceState, k: u32, actions: &mut [u64]) -> Done
-    requires in_bounds { 320 ≤ length actions.old }
-    requires active_value { s.flags.active ≡ false }
-    ensures value { result ≡ ended (activating s k) }
-    ensures actions_after { actions.new ≡ laid actions.old (activating s k).actions }
+/// Done with one request, and whether it was accepted.
+pub fn tell(s: MmioV2DeviceState, ok: bool, x: Action, actions: &mut [u64]) -> Result<Done, Refusal>
+    ensures value { result ≡ done (length actions.old) (telling s ok x) }
+    ensures actions_after { actions.new ≡ written actions.old (telling s ok x) }
 {
-    let held = s.held;
-    let queues = s.queues;
-    let n = mmio_tables::queues_in(s.config.count);
-    let valid = mmio_tables::all_valid(queues, s.config.count, s.config.memory);
-    let t = tape_of(held, k);
-    let b = activation::start(&mut *actions, t, s.config.base, s.hot.doorbell, n, valid);
-    let u = b.tape;
-    settle(s, u, b.ok)
-}
-
-fn reset_to(s: MmioV2DeviceState, t: Tape, ok: bool) -> Done
-    ensures { result ≡ record { state = pick ok (wiped s t.held) s; refusal = 0; ok = ok; count = t.count } }
-{
-    let held = t.held;
-    if ok {
-        let u = wipe_state(s, held);
-        return Done {
-            state: u,
-            refusal: 0,
-            ok: true,
-            count: t.count,
-        };
-    }
-    Done {
+    enough(actions)?;
+    words::append(actions, 0, x);
+    Ok(Done {
         state: s,
-        refusal: 0,
-        ok: false,
-        count: t.count,
+        ok,
+        count: 1,
+    })
+}
+
+// ---- activation and reset
+
+fn start_state(mut s: MmioV2DeviceState, held: [Held; MAX_QUEUES]) -> MmioV2DeviceState
+    ensures { result ≡ started s held }
+{
+    s.flags = Flags {
+        active: true,
+        registered: true,
+        enabled: true,
+    };
+    s.held = held;
+    s
+}
+
+fn wipe_state(s: MmioV2DeviceState, held: [Held; MAX_QUEUES]) -> MmioV2DeviceState
+    ensures { result ≡ wiped s held }
+{
+    let mut u = begun(s.hot.wiped(), s.config);
+    u.held = held;
+    u
+}
+
+fn settle(s: MmioV2DeviceState, held: [Held; MAX_QUEUES], ok: bool) -> MmioV2DeviceState
+    ensures { result ≡ settled s ok held }
+{
+    if ok {
+        start_state(s, held)
+    } else {
+        wipe_state(s, held)
     }
 }
 
-fn shut(s: MmioV2DeviceState, k: u32, actions: &mut [u64]) -> Done
-    requires { 320 ≤ length actions.old }
-    ensures value { result ≡ ended (resetting s k) }
-    ensures actions_after { actions.new ≡ laid actions.old (resetting s k).actions }
+fn reset_to(s: MmioV2DeviceState, held: [Held; MAX_QUEUES], ok: bool) -> MmioV2DeviceState
+    ensures { result ≡ pick ok (wiped s held) s }
 {
-    let held = s.held;
-    let n = mmio_tables::queues_in(s.config.count);
-    let t = tape_of(held, k);
-    let b = activation::stop(
-        &mut *actions,
-        t,
-        s.config.base,
-        n,
-        s.flags.registered,
-        s.flags.active,
-    );
-    let u = b.tape;
-    reset_to(s, u, b.ok)
+    if ok { wipe_state(s, held) } else { s }
 }
 
 fn acked(page: u32, v: u32) -> Action
@@ -236,187 +162,138 @@ fn acked(page: u32, v: u32) -> Action
 {
     Action {
         kind: ACTION_ACKED_FEATURES,
-        a: page as u64,
-        b: v as u64,
-        c: 0,
-        d: 0,
+        a: u64::from(page),
+        b: u64::from(v),
+        ..Action::default()
     }
 }
 
 impl MmioV2DeviceState {
-    /// A fresh state, or the refusal's number: 2 to 6.
-    pub fn new(c: Configuration) -> Made
+    /// A fresh state, or its refusal: 2 to 6.
+    #[tactic(auto, unfolding(crate::specs::Fresh::made, mmio_config::specs::Fresh::configured))]
+    pub fn new(c: Configuration) -> Result<Self, Refusal>
         ensures { result ≡ made c }
     {
-        let g = mmio_config::configure(c);
-        let config = g.config;
-        if g.refusal == 0 {
-            let s = begun(mmio_config::fresh_hot(c), config);
-            return Made {
-                refusal: 0,
-                state: s,
-            };
-        }
-        let none = begun(no_hot(), config);
-        Made {
-            refusal: g.refusal,
-            state: none,
-        }
-    }
-
-    /// No device: every word 0.
-    pub fn none() -> Self
-        ensures { result ≡ no_state }
-    {
-        let config = mmio_config::no_config();
-        begun(no_hot(), config)
+        let config = mmio_config::configure(c)?;
+        Ok(begun(mmio_config::fresh_hot(c), config))
     }
 
     /// Validity, registrations, interrupts enabled, the device activated; after a refusal what is undone, and the state
     /// reset.
-    pub fn activate(self, k: u32, actions: &mut [u64]) -> Done
-        ensures value { result ≡ done (length actions.old) self (activating self k) }
+    pub fn activate(self, k: u32, actions: &mut [u64]) -> Result<Done, Refusal>
+        ensures value { result ≡ done (length actions.old) (activating self k) }
         ensures actions_after { actions.new ≡ written actions.old (activating self k) }
     {
-        if actions.len() < ACTION_WORDS {
-            return refuse(self);
-        }
+        enough(actions)?;
         if self.flags.active {
-            return Done {
-                state: self,
-                refusal: 0,
-                ok: true,
-                count: 0,
-            };
+            return ask_nothing(self, true, actions);
         }
-        attempt(self, k, actions)
+        let n = mmio_tables::queues_in(self.config.count);
+        let valid = self.check_queues_valid();
+        let mut tape = Tape::new(actions, self.config.base, k, self.held);
+        let ok = activation::start(&mut tape, self.hot.doorbell, n, valid);
+        Ok(Done {
+            state: settle(self, tape.held, ok),
+            ok,
+            count: tape.count,
+        })
     }
 
     /// Action 11: the acknowledged features of the selected page.
-    pub fn set_acked_features(self, v: u32, actions: &mut [u64]) -> Done
-        ensures value { result ≡ done (length actions.old) self (acking self v) }
+    pub fn set_acked_features(self, v: u32, actions: &mut [u64]) -> Result<Done, Refusal>
+        ensures value { result ≡ done (length actions.old) (acking self v) }
         ensures actions_after { actions.new ≡ written actions.old (acking self v) }
     {
-        if actions.len() < ACTION_WORDS {
-            return refuse(self);
-        }
-        words::append(actions, 0, acked(self.hot.ackpage, v));
-        Done {
-            state: self,
-            refusal: 0,
-            ok: true,
-            count: 1,
-        }
+        tell(self, true, acked(self.hot.ackpage, v), actions)
     }
 
     /// FAILED set.
-    pub fn set_driver_failed(self) -> Self
+    pub fn set_driver_failed(mut self) -> Self
         ensures { result ≡ failed_state self }
     {
-        let hot = self.hot;
-        let failed = hot.fail();
-        let mut u = self;
-        u.hot = failed;
-        u
+        self.hot = self.hot.fail();
+        self
     }
 
     /// The device's own reset, asked if it is active, and then the state's.
-    pub fn reset(self, k: u32, actions: &mut [u64]) -> Done
-        ensures value { result ≡ done (length actions.old) self (resetting self k) }
+    pub fn reset(self, k: u32, actions: &mut [u64]) -> Result<Done, Refusal>
+        ensures value { result ≡ done (length actions.old) (resetting self k) }
         ensures actions_after { actions.new ≡ written actions.old (resetting self k) }
     {
-        if actions.len() < ACTION_WORDS {
-            return refuse(self);
-        }
-        shut(self, k, actions)
+        enough(actions)?;
+        let n = mmio_tables::queues_in(self.config.count);
+        let mut tape = Tape::new(actions, self.config.base, k, self.held);
+        let ok = activation::stop(&mut tape, n, self.flags.registered, self.flags.active);
+        Ok(Done {
+            state: reset_to(self, tape.held, ok),
+            ok,
+            count: tape.count,
+        })
     }
 
     /// Whether every queue may be started.
     pub fn check_queues_valid(self) -> bool
         ensures { result ≡ queues_valid self }
     {
-        let queues = self.queues;
-        mmio_tables::all_valid(queues, self.config.count, self.config.memory)
+        mmio_tables::all_valid(self.queues, self.config.count, self.config.memory)
     }
 
     /// The maximum size of the selected queue, 0 if there is none: 034.
     pub fn queue_max(self) -> u32
         ensures { result ≡ selected_max self }
     {
-        let sizes = self.config.sizes;
-        mmio_tables::size_at(sizes, QueueIndex(self.hot.queue), self.config.count)
+        let q = QueueIndex(self.hot.queue);
+        mmio_tables::size_at(self.config.sizes, q, self.config.count)
     }
 
     /// Whether the selected queue is ready, 0 if there is none: 044.
     pub fn queue_ready(self) -> u32
         ensures { result ≡ selected_ready self }
     {
-        let queues = self.queues;
-        mmio_tables::field_at(
-            queues,
-            QueueIndex(self.hot.queue),
-            self.config.count,
-            Field::Ready,
-        )
+        let q = QueueIndex(self.hot.queue);
+        mmio_tables::field_at(self.queues, q, self.config.count, Field::Ready)
     }
 
     /// A write to a queue-field register that the status lets through.
-    pub fn with_queue_mut(self, f: Field, v: u32) -> Self
+    pub fn with_queue_mut(mut self, f: Field, v: u32) -> Self
         ensures { result ≡ field_written self f v }
     {
-        let queues = self.queues;
-        let sizes = self.config.sizes;
-        let out = mmio_tables::update_at(
-            queues,
-            sizes,
-            QueueIndex(self.hot.queue),
-            self.config.count,
-            f,
-            v,
-        );
-        let mut u = self;
-        u.queues = out;
-        u
+        let q = QueueIndex(self.hot.queue);
+        let config = self.config;
+        let queues = mmio_tables::update_at(self.queues, config.sizes, q, config.count, f, v);
+        self.queues = queues;
+        self
     }
 
     /// The features of the selected page, as they were given.
     pub fn get_avail_features(self) -> u32
         ensures { result ≡ offered self }
     {
-        if self.hot.page == 0 {
-            return self.config.page0;
+        match self.hot.page {
+            0 => self.config.page0,
+            1 => self.config.page1,
+            _ => 0,
         }
-        if self.hot.page == 1 {
-            return self.config.page1;
-        }
-        0
     }
 
     /// The selected region, if there is one.
-    pub fn get_shm_field(self) -> Found
+    pub fn get_shm_field(self) -> Option<Region>
         ensures { result ≡ selected_region self }
     {
-        let table = self.config.table;
-        mmio_tables::found_at(table, self.hot.region, self.config.regions)
+        mmio_tables::found_at(self.config.table, self.hot.region, self.config.regions)
     }
 
     /// What a field of a queue holds, or refusal 13.
-    pub fn field(self, q: QueueIndex, f: Field) -> Reply
-        ensures { result ≡ asked self q.0 f }
+    pub fn field(self, q: QueueIndex, f: Field) -> Result<u32, Refusal>
+        ensures { result ≡ answer_to self q.0 f }
     {
-        let queues = self.queues;
-        let value = mmio_tables::field_at(queues, q, self.config.count, f);
-        if q.0 < mmio_tables::queues_in(self.config.count) {
-            return Reply { refusal: 0, value };
-        }
-        Reply { refusal: 13, value }
+        mmio_tables::queue_field_at(self.queues, q, self.config.count, f)
     }
 
     /// Whether a queue's registration stands and what it is made with, or refusal 13.
-    pub fn held_entry(self, q: QueueIndex, k: Kind) -> Standing
-        ensures { result ≡ asked_held self q.0 k }
+    pub fn held_entry(self, q: QueueIndex, k: Kind) -> Result<Standing, Refusal>
+        ensures { result ≡ held_answer_to self q.0 k }
     {
-        let held = self.held;
-        mmio_tables::standing_at(held, q, self.config.count, self.config.base, k)
+        mmio_tables::standing_at(self.held, q, self.config.count, self.config.base, k)
     }
 }

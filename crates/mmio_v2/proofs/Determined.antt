@@ -7,6 +7,7 @@ use Rattle.mmio_v2.proofs.MmioV2Device.raise.Reads as raise-promise
 use Rattle.mmio_v2.proofs.MmioV2Device.driver_status.Reads as driver-status-promise
 use Rattle.mmio_v2.proofs.MmioV2Device.field.Reads as field-promise
 use Rattle.mmio_v2.proofs.MmioV2Device.held_entry.Reads as held-entry-promise
+use Rattle.mmio_v2.proofs.MadeDeviceFromResultMmioV2DeviceRefusal.from.Reads as made-device-from-promise
 
 pub new-determined : (κs : _) (a : _) (r r' : _) (s s' : _) → new-promise.Post κs a r s → new-promise.Post κs a r' s' → r ≡ r'
 new-determined κs a r r' s s' p q = p ∙ sym q
@@ -28,3 +29,6 @@ field-determined κs a r r' s s' p q = p ∙ sym q
 
 pub held-entry-determined : (κs : _) (a : _) (r r' : _) (s s' : _) → held-entry-promise.Post κs a r s → held-entry-promise.Post κs a r' s' → r ≡ r'
 held-entry-determined κs a r r' s s' p q = p ∙ sym q
+
+pub made-device-from-determined : (κs : _) (a : _) (r r' : _) (s s' : _) → made-device-from-promise.Post κs a r s → made-device-from-promise.Post κs a r' s' → r ≡ r'
+made-device-from-determined κs a r r' s s' p q = p ∙ sym q

@@ -1,5 +1,5 @@
 -- A property of each row of a register list, at the row's length, is one of the register found, at the access's length.
-use mathlib.Core.Bool.{Bool, true, false, ◌&&◌, ◌||◌, true≢false}
+use mathlib.Core.Bool.{Bool, true, false, ◌&&◌, true≢false}
 use mathlib.Core.Path.{◌≡◌, refl, sym}
 use mathlib.Core.List.{List, [], ◌∷◌}
 use Prim.Native.Nat.{ℕ, ◌-◌, ◌≤◌}
@@ -8,7 +8,6 @@ use borrow.Author.Tests.{eqb-true}
 use lib.Dec.{eqb, leb}
 use lib.ListN.{length}
 use Rattle.words.specs.Pick.{pick}
-use Rattle.words.proofs.Bytes.{length-bytes}
 use Rattle.registers.specs.Rows.{Row, find}
 use Rattle.registers.specs.Registers.{read_rows, read_at}
 use Rattle.registers.specs.declared.ReadRegister.{ReadRegister}
@@ -17,9 +16,10 @@ use Rattle.mmio_state.specs.State.{State}
 use Rattle.mmio_access.specs.Shown.{doorbell_word}
 use Rattle.mmio_access.specs.Changes.{config_read}
 use Rattle.mmio_v2.specs.Operation.{Read}
-use Rattle.mmio_v2.specs.Registers.{shows, word_if, fits_reply, read_asks}
+use Rattle.mmio_v2.specs.Registers.{shows, word_if, bytes_shown, fits_reply, read_asks}
 use Rattle.mmio_v2.specs.Step.{operated}
 use Rattle.mmio_v2.specs.declared.Shown.{Shown}
+use Rattle.mmio_v2.specs.declared.Shown.TheVariants.{Word, Half, Nothing}
 
 pub data Each {A : Type 0} (P : A → ℕ → Type 0) : List (Row A) → Type 0 where
   none : Each P []
@@ -38,17 +38,10 @@ found P n (r ∷ rs) z (more p m) o l = go (eqb l r.length && eqb o r.offset) re
     go false e q = q
 
 -- a reply that fits has at most four bytes, and not more than the access
-fitting : (x : Shown) (l : ℕ) → fits_reply x l ≡ true → (x.width ≤ 4) × (x.width ≤ l)
-fitting x l = go (eqb x.width 0) (eqb x.width 4) (eqb x.width 2) (eqb x.width l) refl refl refl refl
-  where
-    go : (a b c d : Bool) → eqb x.width 0 ≡ a → eqb x.width 4 ≡ b → eqb x.width 2 ≡ c → eqb x.width l ≡ d
-        → pick a true ((b || c) && d) ≡ true → (x.width ≤ 4) × (x.width ≤ l)
-    go true b c d p q r s e = let z = eqb-true x.width 0 p in (omega arith, omega arith)
-    go false true c true p q r s e = let z = eqb-true x.width 4 q in let y = eqb-true x.width l s in (omega arith, omega arith)
-    go false true c false p q r s e = absurd (true≢false (sym e))
-    go false false true true p q r s e = let z = eqb-true x.width 2 r in let y = eqb-true x.width l s in (omega arith, omega arith)
-    go false false true false p q r s e = absurd (true≢false (sym e))
-    go false false false d p q r s e = absurd (true≢false (sym e))
+fitting : (x : Shown) (l : ℕ) → fits_reply x l ≡ true → (length (bytes_shown x) ≤ 4) × (length (bytes_shown x) ≤ l)
+fitting (Word v) l e = let z = eqb-true 4 l e in (omega arith, omega arith)
+fitting (Half v) l e = let z = eqb-true 2 l e in (omega arith, omega arith)
+fitting Nothing l e = (omega arith, omega arith)
 
 -- every reply is as long as its access
 module _ (s : State) where
@@ -72,10 +65,7 @@ module _ (s : State) where
       go false = found Fits R.Unknown read_rows (λ m. refl) rows o l
 
   pub reply-short : (k o l : ℕ) → (length (operated s (Read k o l)).reply ≤ 4) × (length (operated s (Read k o l)).reply ≤ l)
-  reply-short k o l =
-      let e = length-bytes (shows s (read_at o l)).width (shows s (read_at o l)).value in
-      let f = fitting (shows s (read_at o l)) l (shown-fits o l) in
-      (omega (arith, e, f.0), omega (arith, e, f.1))
+  reply-short k o l = fitting (shows s (read_at o l)) l (shown-fits o l)
 
   -- only the configuration asks
   abbrev Silent : ReadRegister → ℕ → Type 0

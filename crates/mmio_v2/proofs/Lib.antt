@@ -1,5 +1,4 @@
 -- How the code comes to the definitions, and what each promise determines.
 pub mod Found
-pub mod Replying
-pub mod Stepping
+pub mod Making
 pub mod Determined

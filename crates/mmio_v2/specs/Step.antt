@@ -1,10 +1,12 @@
 -- The device as one function of its state and an operation (01, "What the gateway hands over", Registers, Actions). Its
 -- tests stand in this order: room for the actions, then the access's length and offset, then the register's own.
-use Rattle.std.specs.Prelude.{List, [], ℕ, ltb, length}
+use Rattle.std.specs.Prelude.{Result, Ok, Err, List, [], ℕ, ltb, length}
 use Rattle.std.proofs.lemmas.List.Edits.{sets}
 use Rattle.words.specs.Pick.{pick}
 use Rattle.words.specs.Bytes.{read_le}
 use Rattle.words.specs.declared.Action.{Action}
+use Rattle.words.specs.Refusals.{refusal_number}
+use Rattle.words.specs.declared.Refusal.{Refusal}
 use Rattle.registers.specs.Registers.{read_at, write_at}
 use Rattle.registers.specs.declared.ReadRegister.{ReadRegister}
 use Rattle.mmio_state.specs.State.{State}
@@ -15,6 +17,7 @@ use Rattle.mmio_v2.specs.Operation.{Operation, Read, Write, Raise}
 use Rattle.mmio_v2.specs.Fresh.{device}
 use Rattle.mmio_v2.specs.Registers.{shows, bytes_shown, read_asks, does}
 use Rattle.mmio_v2.specs.declared.Answer.{Answer}
+use Rattle.mmio_v2.specs.declared.MmioV2Device.{MmioV2Device}
 
 -- what comes back: the refusal's number or 0, the state, the reply's bytes (none: no reply), the actions asked
 pub record Outcome : Type 0 where
@@ -56,6 +59,14 @@ answer_of o = record { device = device o.state; refusal = o.refusal; reply = len
 abbrev pub replied : List ℕ → Outcome → List ℕ
 replied l o = sets l 0 o.reply
 
--- a write's answer, of what its function gives
+-- the answer to a refusal, and a write's, of what its function gives
+abbrev pub refused_as : MmioV2Device → Refusal → Answer
+refused_as d e = record { device = d; refusal = refusal_number e; reply = 0; count = 0 }
+
 abbrev pub of_done : Done → Answer
-of_done d = record { device = device d.state; refusal = d.refusal; reply = 0; count = d.count }
+of_done d = record { device = device d.state; refusal = 0; reply = 0; count = d.count }
+
+-- how many records
+abbrev pub counted_of : Result Done Refusal → Result ℕ Refusal
+counted_of (Ok x) = Ok x.count
+counted_of (Err e) = Err e

@@ -1,6 +1,7 @@
 -- Any two results that a promise of this floor allows are equal, and so is the message behind a lent reference at the end.
-use mathlib.Core.Path.{◌≡◌, sym, ◌∙◌}
-use Rattle.msi.proofs.Msi.default.Reads as default-promise
+use mathlib.Core.Path.{◌≡◌, refl, sym, ◌∙◌}
+use Rattle.msi.specs.Stage.{no_message}
+use Rattle.msi.proofs.MsiDefault.default.Reads as default-promise
 use Rattle.msi.proofs.Msi.with_index_select.Reads as with-index-select-promise
 use Rattle.msi.proofs.Msi.with_address_low.Reads as with-address-low-promise
 use Rattle.msi.proofs.Msi.with_address_high.Reads as with-address-high-promise
@@ -14,8 +15,9 @@ use Rattle.msi.proofs.Msi.staged_address_low.Reads as staged-address-low-promise
 use Rattle.msi.proofs.Msi.staged_address_high.Reads as staged-address-high-promise
 use Rattle.msi.proofs.Msi.staged_data.Reads as staged-data-promise
 
-pub default-determined : (κs : _) (a : _) (r r' : _) (s s' : _) → default-promise.Post κs a r s → default-promise.Post κs a r' s' → r ≡ r'
-default-determined κs a r r' s s' p q = p ∙ sym q
+-- the derived default is the message of zeros
+pub default-determined : (κs : _) (a : _) (r : _) (s : _) → default-promise.Post κs a r s → r ≡ no_message
+default-determined κs a r s p = rw (p.0, p.1.0, p.1.1.0, p.1.1.1) refl
 
 pub with-index-select-determined : (κs : _) (a : _) (r r' : _) (s s' : _) → with-index-select-promise.Post κs a r s → with-index-select-promise.Post κs a r' s' → r ≡ r'
 with-index-select-determined κs a r r' s s' p q = p ∙ sym q

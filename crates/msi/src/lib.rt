@@ -12,9 +12,9 @@
 ghost use Rattle.std.specs.Prelude.{◌≡◌};
 ghost use Rattle.msi.specs.Stage.{no_message, with_address_high, with_address_low, with_data, with_index_select};
 
-/// MSI interrupts.
+/// MSI interrupts. The default is a message of zeros.
+#[derive(Clone, Copy, PartialEq, Eq, Debug, Default)]
 #[repr(C)]
-#[derive(Clone, Copy)]
 pub struct Msi {
     pub index_select: u32,
     pub address_low: u32,
@@ -23,18 +23,6 @@ pub struct Msi {
 }
 
 impl Msi {
-    /// A message of zeros.
-    pub fn default() -> Self
-        ensures { result ≡ no_message }
-    {
-        Msi {
-            index_select: 0,
-            address_low: 0,
-            address_high: 0,
-            data: 0,
-        }
-    }
-
     /// Sets index select.
     pub fn with_index_select(mut self, v: u32) -> Self
         ensures { result ≡ with_index_select self v }

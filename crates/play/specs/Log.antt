@@ -16,7 +16,7 @@ operation_of r bs =
 
 -- it may run, wherever a write's bytes come from: its kind is 1 to 3, raise bits are below 2^32, and the length it names is at
 -- most 4,096, whatever its kind
-unfoldable pub may_run : Record → Bool
+abbrev pub may_run : Record → Bool
 may_run r = pick (kind_good r) (leb r.len 4096) false
 
 -- a write's bytes: so many from its start in the pool on

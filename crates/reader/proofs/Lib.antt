@@ -1,4 +1,4 @@
--- The walks of a reader's functions, what each promise says, and what it determines.
+-- The walks, what each promise says, and what it determines.
 pub mod Walks
 pub mod Worded
 pub mod Determined

@@ -10,7 +10,10 @@ use seplogic.Ra.Ura.{Ura}
 use prog.Memory.{Memory}
 use prog.Routine.{Routine}
 use Rattle.trace.specs.Verdict.{next_at}
-use Rattle.trace.specs.declared.Next.{Next}
+use Rattle.std.specs.Prelude.{Option, Result}
+use Rattle.words.specs.declared.Refusal.{Refusal}
+use Rattle.words.specs.Refusals.{numbered}
+use Rattle.trace.specs.declared.Record.{Record}
 use Rattle.reader.specs.Reader.{Keeps, found_by}
 use Rattle.reader.specs.declared.TraceReader.{TraceReader}
 use Rattle.reader.specs.contracts.TraceReader.new as new
@@ -25,8 +28,8 @@ module _ {M : Type 1} {𝓤 : Ura M} (𝓛 : Logic 𝓤) (mem : Memory → SProp
   pub moved-says : (κs : _) (d : TraceReader) (n : ℕ) (g : _) (r : TraceReader) (e : _) → (moved.clauses 𝓛 mem run κs (d, (n, tt))).ensures g r e ≡ fact 𝓤 (Keeps d.trace n r)
   moved-says κs d n g r e = refl
 
-  pub next-says : (κs : _) (d : TraceReader) (g : _) (r : Next) (e : _) → (next.clauses 𝓛 mem run κs (d, tt)).ensures g r e ≡ fact 𝓤 (r ≡ found_by d)
+  pub next-says : (κs : _) (d : TraceReader) (g : _) (r : Result (Option Record) Refusal) (e : _) → (next.clauses 𝓛 mem run κs (d, tt)).ensures g r e ≡ fact 𝓤 (numbered r ≡ found_by d)
   next-says κs d g r e = refl
 
-  pub read-at-says : (κs : _) (s : Bor (List ℕ)) (n : ℕ) (g : _) (r : Next) (e : _) → (read_at.clauses 𝓛 mem run κs (s, (n, tt))).ensures g r e ≡ fact 𝓤 (r ≡ next_at s.now n)
+  pub read-at-says : (κs : _) (s : Bor (List ℕ)) (n : ℕ) (g : _) (r : Result (Option Record) Refusal) (e : _) → (read_at.clauses 𝓛 mem run κs (s, (n, tt))).ensures g r e ≡ fact 𝓤 (numbered r ≡ next_at s.now n)
   read-at-says κs s n g r e = refl

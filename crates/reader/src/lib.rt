@@ -4,10 +4,12 @@
 #![tactic(auto)]
 
 ghost use Rattle.std.specs.Prelude.{◌≡◌};
+ghost use Rattle.words.specs.Refusals.{numbered};
 ghost use Rattle.trace.specs.Verdict.{next_at};
 ghost use Rattle.reader.specs.Reader.{Keeps, found_by};
 
-use trace::Next;
+use trace::Record;
+use words::Refusal;
 
 /// A trace, and the number of the record that is read next, from 0 on.
 #[derive(Drop)]
@@ -34,17 +36,17 @@ impl<'a> TraceReader<'a> {
         }
     }
 
-    /// What stands at its place: a record that may run, one that may not, or nothing.
-    pub fn next(self) -> Next
-        ensures { result ≡ found_by self.entry }
+    /// What stands at its place: a record that may run, or none; or what is wrong there.
+    pub fn next(self) -> Result<Option<Record>, Refusal>
+        ensures { numbered result ≡ found_by self.entry }
     {
         trace::next_record(self.trace, self.place)
     }
 }
 
-/// What a reader of this trace finds at this place. It takes no reader, so that whoever calls it is proved in the short way.
-pub fn read_at(trace: &[u8], place: usize) -> Next
-    ensures { result ≡ next_at trace.now place }
+/// What a reader of this trace finds at this place.
+pub fn read_at(trace: &[u8], place: usize) -> Result<Option<Record>, Refusal>
+    ensures { numbered result ≡ next_at trace.now place }
 {
     TraceReader::new(trace, place).next()
 }

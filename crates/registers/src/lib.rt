@@ -152,7 +152,7 @@ pub const REG_MMIO_CONFIG_GENERATI: u64 = 0x0fc;
 pub const REG_MMIO_CONFIG: u64 = 0x100;
 
 /// What a read names. The configuration has its own offset beside it.
-#[derive(Clone, Copy)]
+#[derive(Clone, Copy, PartialEq, Eq, Debug)]
 pub enum ReadRegister {
     MagicValue,
     Version,
@@ -175,7 +175,7 @@ pub enum ReadRegister {
 }
 
 /// What a write names. The eight queue-field registers are one, with the field's kind.
-#[derive(Clone, Copy)]
+#[derive(Clone, Copy, PartialEq, Eq, Debug)]
 pub enum WriteRegister {
     DeviceFeatureSel,
     DriverFeature,

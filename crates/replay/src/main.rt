@@ -3,8 +3,7 @@
 //! standard error, and the files after it are still shown; where that can't be written either, nothing is left to tell it on.
 #![tactic(auto)]
 
-ghost use Rattle.std.specs.Prelude.{◌≤◌, length};
-
+use desk::Part;
 use play::Show;
 use std::env::FillError;
 use std::fmt::InlineText;
@@ -12,11 +11,11 @@ use std::fs::File;
 use std::io::{ErrorKind, Read};
 use std::rt::{Env, Files};
 use std::{io, str};
-use text::LINE_ROOM;
-use trace::MAX_RECORDS;
+use text::{LINE_ROOM, Page};
+use trace::{MAX_RECORDS, MAX_TRACE};
 
 // What is shown of the files to come, and whether one was named yet.
-#[derive(Clone, Copy)]
+#[derive(Clone, Copy, Default)]
 struct Wanted {
     show: Show,
     named: bool,
@@ -26,8 +25,8 @@ struct Wanted {
 const TEXT_ROOM: usize = 65536;
 
 // One byte more than a trace may have tells a longer one.
-fn trace_space() -> [u8; 65537] {
-    [0; 65537]
+fn trace_space() -> [u8; MAX_TRACE + 1] {
+    [0; MAX_TRACE + 1]
 }
 
 // An error's text without its number, which the library puts behind what the system says.
@@ -46,75 +45,56 @@ fn fail(err: &impl Print, what: &[u8], e: &io::Error) {
     let _ = println!(err; ": {words}");
 }
 
-fn put(rt: &impl Print, err: &impl Print, out: &[u8], n: usize) {
-    if n <= out.len() {
-        if let Err(e) = rt.write_all(&out[..n]) {
-            fail(err, b"standard output", &e);
-        }
+// What stands on the page goes out, and the page is empty again.
+fn flush(rt: &impl Print, err: &impl Print, page: &mut Page) {
+    let at = page.at;
+    if let Some(text) = page.out.get(..at)
+        && let Err(e) = rt.write_all(text)
+    {
+        fail(err, b"standard output", &e);
     }
-}
-
-fn as_u32(n: usize) -> u32 {
-    (n % 0x1_0000_0000) as u32
+    page.at = 0;
 }
 
 // The end, in one write with what stands before it where there is room.
-fn finish(rt: &impl Print, err: &impl Print, out: &mut [u8], at: usize, n: u32) {
-    if text::has_room(LINE_ROOM, out.len(), at) {
-        let k = text::end(out, at, n);
-        put(rt, err, out, k);
-        return;
+fn finish(rt: &impl Print, err: &impl Print, page: &mut Page, records: u32) {
+    if !page.has_room(LINE_ROOM) {
+        flush(rt, err, page);
     }
-    put(rt, err, out, at);
-    let k = text::end(out, 0, n);
-    put(rt, err, out, k);
+    page.end(records);
+    flush(rt, err, page);
 }
 
-// A good trace, a bufferful at a time. Each turn runs a record at least, since the buffer has room for several; so there are
-// turns for as many as a trace can have.
-fn run(rt: &impl Print, err: &impl Print, s: &[u8], show: Show, out: &mut [u8]) {
+// A good trace, a pageful at a time. Each turn runs a record at least, since the page has room for several; so there are turns
+// for as many as a trace can have.
+fn run(rt: &impl Print, err: &impl Print, s: &[u8], show: Show, page: &mut Page) {
     let count = trace::count(s);
-    let mut t = desk::begin(s, out);
-    for _ in 0..MAX_RECORDS + 1 {
-        t = desk::piece(t, s, show, out);
-        if t.next == count {
-            finish(rt, err, out, t.at, as_u32(count));
+    let mut part = Part::begin(s, page);
+    for _ in 0..=MAX_RECORDS {
+        part = part.piece(s, show, page);
+        if part.next == count {
+            finish(rt, err, page, u32::try_from(count).unwrap_or(MAX_RECORDS));
             return;
         }
-        put(rt, err, out, t.at);
-        t.at = 0;
+        flush(rt, err, page);
     }
 }
 
 fn show_trace(rt: &impl Print, err: &impl Print, s: &[u8], show: Show) {
     let mut out = [0u8; TEXT_ROOM];
-    let v = trace::verdict(s);
-    if v == 0 {
-        run(rt, err, s, show, &mut out);
-        return;
-    }
-    let k = text::bad(&mut out, 0, v);
-    put(rt, err, &out, k);
-}
-
-// Reads until the space is full, the input ends or a read fails, and answers how many bytes stand at its start.
-fn read_full(from: &mut impl Read, space: &mut [u8]) -> usize
-    ensures { result ≤ length space.new }
-{
-    let mut done = 0;
-    while done < space.len() {
-        match from.read(&mut space[done..]) {
-            Ok(n) if 0 < n => done += n,
-            _ => break,
+    let mut page = Page::new(&mut out);
+    match trace::verdict(s) {
+        Ok(()) => run(rt, err, s, show, &mut page),
+        Err(e) => {
+            page.bad(e.number());
+            flush(rt, err, &mut page);
         }
     }
-    done
 }
 
 // A read of no bytes fails for a folder, and for a file that can't be read.
 fn readable(from: &mut impl Read) -> io::Result<()> {
-    let mut none = [0u8; 0];
-    from.read(&mut none)?;
+    from.read(&mut [])?;
     Ok(())
 }
 
@@ -124,7 +104,7 @@ fn show_input(rt: &impl Print, err: &impl Print, from: &mut impl Read, name: &[u
         return;
     }
     let mut s = trace_space();
-    let n = read_full(from, &mut s);
+    let n = show::read_full(from, &mut s);
     show_trace(rt, err, &s[..n], show);
 }
 
@@ -143,53 +123,40 @@ fn show_file(rt: &(impl Print + Files), err: &impl Print, path: &[u8], show: Sho
     }
 }
 
-fn is_option(word: &[u8]) -> bool {
-    if 2 <= word.len() {
-        return word[0] == b'-';
-    }
-    false
-}
-
-// The letter of an option of one letter, else 0.
-fn letter(word: &[u8]) -> u8 {
-    if word.len() == 2 {
-        return word[1];
-    }
-    0
-}
-
 fn refuse_option(err: &impl Print, word: &[u8]) {
     let _ = err.write_all(b"replay: no option ");
     let _ = err.write_all(word);
     let _ = err.write_all(b"; there are -a (action records) and -f (queue fields)\n");
 }
 
-fn with_option(err: &impl Print, word: &[u8], w: Wanted) -> Wanted {
-    let o = letter(word);
-    let mut next = w;
-    if o == b'a' {
-        next.show.actions = true;
-        return next;
-    }
-    if o == b'f' {
-        next.show.fields = true;
-        return next;
-    }
-    refuse_option(err, word);
-    // Whoever mistyped an option is not left waiting for standard input.
-    next.named = true;
-    next
-}
-
 // One argument: an option changes what is shown, a file is shown.
 fn argument(rt: &(impl Print + Files), err: &impl Print, word: &[u8], w: Wanted) -> Wanted {
-    if is_option(word) {
-        return with_option(err, word, w);
+    let Wanted { show, named } = w;
+    match word {
+        b"-a" => Wanted {
+            show: Show {
+                actions: true,
+                ..show
+            },
+            named,
+        },
+        b"-f" => Wanted {
+            show: Show {
+                fields: true,
+                ..show
+            },
+            named,
+        },
+        [b'-', _, ..] => {
+            refuse_option(err, word);
+            // Whoever mistyped an option is not left waiting for standard input.
+            Wanted { show, named: true }
+        }
+        _ => {
+            show_file(rt, err, word, show);
+            Wanted { show, named: true }
+        }
     }
-    show_file(rt, err, word, w.show);
-    let mut next = w;
-    next.named = true;
-    next
 }
 
 // More than any path has.
@@ -199,12 +166,12 @@ const WORD_ROOM: usize = 4096;
 const ENAMETOOLONG: i32 = 36;
 
 // The arguments in turn, and what is wanted after the last.
-fn arguments(rt: &(impl Print + Files + Env), err: &impl Print, w: Wanted) -> Wanted {
+fn arguments(rt: &(impl Print + Files + Env), err: &impl Print) -> Wanted {
     let mut space = [0u8; WORD_ROOM];
-    let mut next = w;
+    let mut w = Wanted::default();
     for i in 1..usize::MAX {
         match rt.arg(i, &mut space) {
-            Ok(n) => next = argument(rt, err, &space[..n], next),
+            Ok(n) => w = argument(rt, err, &space[..n], w),
             Err(FillError::TooLong) => {
                 let e = io::Error::from_raw_os_error(ENAMETOOLONG);
                 fail(err, b"argument", &e);
@@ -212,21 +179,13 @@ fn arguments(rt: &(impl Print + Files + Env), err: &impl Print, w: Wanted) -> Wa
             Err(FillError::NotPresent) => break,
         }
     }
-    next
+    w
 }
 
 fn main(rt: HostRuntime) {
     let err = rt.stderr();
-    let none = Wanted {
-        show: Show {
-            actions: false,
-            fields: false,
-        },
-        named: false,
-    };
-    let w = arguments(&rt, &err, none);
-    if w.named {
-        return;
+    let w = arguments(&rt, &err);
+    if !w.named {
+        show_input(&rt, &err, &mut rt.stdin(), b"standard input", w.show);
     }
-    show_input(&rt, &err, &mut rt.stdin(), b"standard input", w.show);
 }

@@ -1,8 +1,25 @@
-//! What the programs that are held to a file `stdout` print with: labels, numbers after a space, and action records.
-//! A write that fails is answered as the error that it was.
+//! What the programs that are held to a file `stdout` read and print with: a whole input, labels, numbers after a space, and
+//! action records. A write that fails is answered as the error that it was.
 #![tactic(auto)]
 
+ghost use Rattle.std.specs.Prelude.{◌≤◌, length};
+
 use std::io;
+use std::io::Read;
+
+/// Reads until the space is full, the input ends or a read fails, and answers how many bytes stand at its start.
+pub fn read_full(from: &mut impl Read, space: &mut [u8]) -> usize
+    ensures { result ≤ length space.new }
+{
+    let mut done = 0;
+    while done < space.len() {
+        match from.read(&mut space[done..]) {
+            Ok(n) if 0 < n => done += n,
+            _ => break,
+        }
+    }
+    done
+}
 
 /// The label as it is.
 pub fn say(rt: &impl Print, label: &[u8]) -> io::Result<()> {
@@ -29,25 +46,12 @@ pub fn flag(rt: &impl Print, b: bool) -> io::Result<()> {
     if b { say(rt, b" yes") } else { say(rt, b" no") }
 }
 
-fn record(rt: &impl Print, words: &[u64], at: usize) -> io::Result<()> {
-    if at < words.len() {
-        if 4 < words.len() - at {
-            say(rt, b"\n ")?;
-            hex(rt, words[at])?;
-            hex(rt, words[at + 1])?;
-            hex(rt, words[at + 2])?;
-            hex(rt, words[at + 3])?;
-            hex(rt, words[at + 4])?;
-        }
-    }
-    Ok(())
-}
-
 /// So many action records, a line to each: the kind and four operands in hex.
 pub fn records(rt: &impl Print, words: &[u64], count: usize) -> io::Result<()> {
-    for i in 0..64 {
-        if i < count {
-            record(rt, words, 5 * i)?;
+    for record in words.chunks_exact(5).take(count.min(64)) {
+        say(rt, b"\n ")?;
+        for word in record {
+            hex(rt, *word)?;
         }
     }
     Ok(())
@@ -55,28 +59,20 @@ pub fn records(rt: &impl Print, words: &[u64], count: usize) -> io::Result<()> {
 
 /// Four numbers in hex.
 pub fn four(rt: &impl Print, a: u64, b: u64, c: u64, d: u64) -> io::Result<()> {
-    hex(rt, a)?;
-    hex(rt, b)?;
-    hex(rt, c)?;
-    hex(rt, d)
-}
-
-fn wide(x: u8) -> u64 {
-    x as u64
+    for n in [a, b, c, d] {
+        hex(rt, n)?;
+    }
+    Ok(())
 }
 
 /// So many bytes, two digits to each, or a stroke for none.
 pub fn bytes(rt: &impl Print, b: &[u8], n: usize) -> io::Result<()> {
     say(rt, b" ")?;
     if n == 0 {
-        say(rt, b"-")?;
+        return say(rt, b"-");
     }
-    for i in 0..8 {
-        if i < n {
-            if i < b.len() {
-                two(rt, wide(b[i]))?;
-            }
-        }
+    for byte in b.iter().take(n.min(8)) {
+        two(rt, u64::from(*byte))?;
     }
     Ok(())
 }
@@ -85,40 +81,25 @@ pub fn bytes(rt: &impl Print, b: &[u8], n: usize) -> io::Result<()> {
 pub const UNTOUCHED: u64 = 0xe;
 
 fn same_bytes(before: &[u8], after: &[u8], reply: usize) -> bool {
-    for i in 0..8 {
-        if reply <= i {
-            if i < before.len() {
-                if i < after.len() {
-                    if before[i] != after[i] {
-                        return false;
-                    }
-                }
-            }
-        }
-    }
-    true
-}
-
-fn past(count: usize) -> usize {
-    if count < 64 {
-        return 5 * count;
-    }
-    320
+    before
+        .iter()
+        .zip(after)
+        .take(8)
+        .skip(reply)
+        .all(|(a, b)| a == b)
 }
 
 fn same_words(words: &[u64], count: usize) -> bool {
-    for i in past(count)..words.len() {
-        if words[i] != UNTOUCHED {
-            return false;
-        }
-    }
-    true
+    words
+        .iter()
+        .skip(5 * count.min(64))
+        .all(|word| *word == UNTOUCHED)
 }
 
 fn refused(rt: &impl Print, n: u32, kept: bool) -> io::Result<()> {
     if n != 0 {
         say(rt, b" refused")?;
-        dec(rt, n as u64)?;
+        dec(rt, u64::from(n))?;
         if kept {
             say(rt, b" kept")?;
         }
@@ -142,7 +123,7 @@ pub fn answer(
     count: usize,
 ) -> io::Result<()> {
     say(rt, b" ")?;
-    two(rt, status as u64)?;
+    two(rt, u64::from(status))?;
     bytes(rt, after, reply)?;
     dec(rt, count as u64)?;
     refused(

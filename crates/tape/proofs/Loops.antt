@@ -1,49 +1,32 @@
--- Loops that write f 0 up to f (n - 1), and f (n - 1) down to f 0: what is left to write from here comes to the whole.
-use Rattle.std.proofs.Common.{◌≡◌, ℕ, ◌+◌, ◌-◌, ◌<◌, ◌≤◌, List, length, sym, ap, ◌∙◌, arith}
-use native.Mathlib.Nat.{sub-zero}
+-- Records written one after the other: what is left to write from here comes to the whole.
+use Rattle.std.proofs.Common.{◌≡◌, ℕ, ◌-◌, ◌≤◌, List, [], ◌∷◌, ap, arith}
 use Rattle.words.specs.Lists.{up, down}
-use Rattle.words.proofs.Lists.{up_more, up_none, down-more}
 use Rattle.words.specs.declared.Action.{Action}
 use Rattle.tape.specs.declared.Tape.{Tape}
-use Rattle.tape.specs.Play.{Sheet, sheet, one, play, Played}
-use Rattle.tape.proofs.Playing.{same-long}
+use Rattle.tape.specs.Play.{Played}
+use Rattle.tape.proofs.Playing.{then, unplayed}
 
--- records, so that their arguments are found at each use
-pub record Rising (b : ℕ) (f : ℕ → Action) (n : ℕ) (l₀ : List ℕ) (t₀ : Tape) (l : List ℕ) (t : Tape) (j : ℕ) : Type 0 where
-  pub within : j ≤ n
-  pub rest : play b (sheet l t) (up j (n - j) f) ≡ play b (sheet l₀ t₀) (up 0 n f)
+-- from t₀ on the records `whole` are to be played; at t, `rest` of them are left
+pub record Left (t₀ : Tape) (whole : List Action) (t : Tape) (rest : List Action) : Type 0 where
+  pub comes : (t' : Tape) → Played t rest t' → Played t₀ whole t'
 
-pub rising-first : (b : ℕ) (f : ℕ → Action) (n : ℕ) (l : List ℕ) (t : Tape) → Rising b f n l t l t 0
-rising-first b f n l t = record { within = omega arith; rest = rw (sub-zero n) }
+pub left_first : (t : Tape) (xs : List Action) → Left t xs t xs
+left_first t xs = record { comes = λ t' p. p }
 
-module _ {b : ℕ} {f : ℕ → Action} {n : ℕ} {l₀ : List ℕ} {t₀ : Tape} {l : List ℕ} {t : Tape} {j : ℕ} (g : Rising b f n l₀ t₀ l t j) where
-  pub rising-more : {l' : List ℕ} {t' : Tape} → j < n → sheet l' t' ≡ one b (sheet l t) (f j) → Rising b f n l₀ t₀ l' t' (j + 1)
-  rising-more h e =
-      record {
-        within = omega arith;
-        rest = ap (λ (s : Sheet). play b s (up (j + 1) (n - (j + 1)) f)) e ∙ sym (ap (play b (sheet l t)) (up_more j n f h)) ∙ g.rest;
-      }
+module _ {t₀ : Tape} {whole : List Action} {t : Tape} where
+  pub left_last : {rest : List Action} → Left t₀ whole t rest → rest ≡ [] → Played t₀ whole t
+  left_last g e = g.comes t (rw e (unplayed t))
 
-  pub rising-last : n ≤ j → Played b l₀ t₀ (up 0 n f) l t
-  rising-last h = record { is = sym (ap (play b (sheet l t)) (up_none j n f h)) ∙ g.rest }
+  pub left_more : {rest : List Action} (x : Action) (ys : List Action) (t' : Tape) → Left t₀ whole t rest → rest ≡ x ∷ ys → Played t (x ∷ []) t' → Left t₀ whole t' ys
+  left_more x ys t' g e p = record { comes = λ u q. g.comes u (rw e (then p q)) }
 
-  pub rising-long : length l ≡ length l₀
-  rising-long = same-long b (sheet l t) (sheet l₀ t₀) (up j (n - j) f) (up 0 n f) g.rest
+-- f 0 up to f (n - 1), of which those from f j on are left
+abbrev pub Rising : (f : ℕ → Action) (n : ℕ) (t₀ t : Tape) (j : ℕ) → Type 0
+Rising f n t₀ t j = Left t₀ (up 0 n f) t (up j (n - j) f)
 
-pub record Sinking (b : ℕ) (f : ℕ → Action) (n : ℕ) (l₀ : List ℕ) (t₀ : Tape) (l : List ℕ) (t : Tape) (j : ℕ) : Type 0 where
-  pub within : j ≤ n
-  pub rest : play b (sheet l t) (down j f) ≡ play b (sheet l₀ t₀) (down n f)
+-- f (n - 1) down to f 0, of which those from f (j - 1) on are left
+abbrev pub Sinking : (f : ℕ → Action) (n : ℕ) (t₀ t : Tape) (j : ℕ) → Type 0
+Sinking f n t₀ t j = Left t₀ (down n f) t (down j f)
 
-module _ {b : ℕ} {f : ℕ → Action} {n : ℕ} {l₀ : List ℕ} {t₀ : Tape} {l : List ℕ} {t : Tape} {j : ℕ} (g : Sinking b f n l₀ t₀ l t j) where
-  pub sinking-more : {l' : List ℕ} {t' : Tape} → 0 < j → sheet l' t' ≡ one b (sheet l t) (f (j - 1)) → Sinking b f n l₀ t₀ l' t' (j - 1)
-  sinking-more h e =
-      record {
-        within = omega (arith, g.within);
-        rest = ap (λ (s : Sheet). play b s (down (j - 1) f)) e ∙ sym (ap (play b (sheet l t)) (down-more j f h)) ∙ g.rest;
-      }
-
-  pub sinking-last : j ≤ 0 → Played b l₀ t₀ (down n f) l t
-  sinking-last h = let z : j ≡ 0 = omega arith in record { is = sym (ap (λ (m : ℕ). play b (sheet l t) (down m f)) z) ∙ g.rest }
-
-  pub sinking-long : length l ≡ length l₀
-  sinking-long = same-long b (sheet l t) (sheet l₀ t₀) (down j f) (down n f) g.rest
+pub down_none : (j : ℕ) (f : ℕ → Action) → j ≤ 0 → down j f ≡ []
+down_none j f h = let z : j ≡ 0 = omega arith in ap (λ (m : ℕ). down m f) z

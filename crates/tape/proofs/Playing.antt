@@ -1,5 +1,5 @@
 -- Records played one after another: what is left to play from here comes to the whole.
-use Rattle.std.proofs.Common.{◌≡◌, ℕ, ◌+◌, ◌*◌, ◌≤◌, Bool, true, false, List, [], ◌∷◌, ◌++◌, length, sym, refl, ap, ◌∙◌, add-zero, zero-add, arith, le-leb, leb-true}
+use Rattle.std.proofs.Common.{◌≡◌, ℕ, ◌+◌, ◌*◌, ◌≤◌, Bool, true, false, List, [], ◌∷◌, ◌++◌, length, subst, sym, refl, ap, ◌∙◌, add-zero, zero-add, arith, le-leb, leb-true}
 use lib.Seq.{sets, length-sets}
 use Rattle.words.specs.Pick.{pick}
 use Rattle.words.specs.Actions.{Emitted, fitting, words_of, words_of_all}
@@ -8,30 +8,31 @@ use Rattle.words.specs.declared.Action.{Action}
 use Rattle.tape.specs.declared.Held.{Held}
 use Rattle.tape.specs.declared.Tape.{Tape}
 use Rattle.tape.specs.Held.{held_one, held_after, left_after}
-use Rattle.tape.specs.Play.{Sheet, sheet, room_for, one, play, Played, laid}
+use Rattle.std.specs.Borrow.{MutBor}
+use Rattle.tape.specs.Play.{IsBegun, Sheet, sheet, room_for, one, play, Played, laid}
 
 -- ---- one record
 
-module _ (b : ℕ) (l : List ℕ) (t : Tape) (x : Action) where
-  pub one_left : (one b (sheet l t) x).tape.left ≡ left_after t.left x
+pub one_left : (b : ℕ) (s : Sheet) (x : Action) → (one b s x).left ≡ left_after s.left x
+unfolding one
+one_left b s x = refl
+
+-- what the code does: the answers and the table are worked out, and where there is room `append` wrote w
+module _ (b : ℕ) (s : Sheet) (x : Action) where
+  pub one_written : (w : List ℕ) (at : ℕ) → room_for s.count (length s.words) ≡ true
+      → Emitted s.words (5 * s.count) (fitting s.words (5 * s.count) (words_of x)) w at
+      → record { words = w; count = s.count + 1; left = left_after s.left x; held = held_one b s.left x s.held } ≡ one b s x
   unfolding one
-  one_left = refl
+  one_written w at h e =
+      let k : 5 * s.count + 5 ≤ length s.words = leb-true (5 * s.count + 5) (length s.words) h in
+      let f : fitting s.words (5 * s.count) (words_of x) ≡ words_of x = fits s.words (5 * s.count) (words_of x) (rw (length-words x) k) in
+      let q : w ≡ sets s.words (5 * s.count) (words_of x) = e.wrote ∙ rw f in
+      rw (h, q)
 
-  -- what the code does: the answers and the table are worked out, and where there is room `append` wrote l'
-  module _ (left : ℕ) (hs : List Held) (q : left ≡ left_after t.left x) (r : hs ≡ held_one b t.left x t.held) where
-    pub one_written : (l' : List ℕ) (at : ℕ) → room_for t.count (length l) ≡ true
-        → Emitted l (5 * t.count) (fitting l (5 * t.count) (words_of x)) l' at
-        → sheet l' (record { count = t.count + 1; left = left; held = hs }) ≡ one b (sheet l t) x
-    unfolding one
-    one_written l' at h e =
-        let k : 5 * t.count + 5 ≤ length l = leb-true (5 * t.count + 5) (length l) h in
-        let f : fitting l (5 * t.count) (words_of x) ≡ words_of x = fits l (5 * t.count) (words_of x) (rw (length-words x) k) in
-        let w : l' ≡ sets l (5 * t.count) (words_of x) = e.wrote ∙ rw f in
-        rw (h, w, q, r)
-
-    pub one-unwritten : room_for t.count (length l) ≡ false → sheet l (record { count = t.count; left = left; held = hs }) ≡ one b (sheet l t) x
-    unfolding one
-    one-unwritten h = rw (h, q, r)
+  pub one_unwritten : room_for s.count (length s.words) ≡ false
+      → record { words = s.words; count = s.count; left = left_after s.left x; held = held_one b s.left x s.held } ≡ one b s x
+  unfolding one
+  one_unwritten h = rw h
 
 -- ---- several
 
@@ -42,10 +43,10 @@ play-join b s (x ∷ xs) ys = play-join b (one b s x) xs ys
 -- the lent words stay as many as they were
 one-long : (b : ℕ) (s : Sheet) (x : Action) → length (one b s x).words ≡ length s.words
 unfolding one
-one-long b s x = go (room_for s.tape.count (length s.words))
+one-long b s x = go (room_for s.count (length s.words))
   where
-    go : (r : Bool) → length (pick r (sets s.words (5 * s.tape.count) (words_of x)) s.words) ≡ length s.words
-    go true = length-sets s.words (5 * s.tape.count) (words_of x)
+    go : (r : Bool) → length (pick r (sets s.words (5 * s.count) (words_of x)) s.words) ≡ length s.words
+    go true = length-sets s.words (5 * s.count) (words_of x)
     go false = refl
 
 play-long : (b : ℕ) (s : Sheet) (xs : List Action) → length (play b s xs).words ≡ length s.words
@@ -56,54 +57,68 @@ pub same-long : (b : ℕ) (s s' : Sheet) (xs ys : List Action) → play b s xs �
 same-long b s s' xs ys e = sym (play-long b s xs) ∙ ap (λ (r : Sheet). length r.words) e ∙ play-long b s' ys
 
 -- the table is the fold, room or not
-pub play-held : (b : ℕ) (s : Sheet) (xs : List Action) → (play b s xs).tape.held ≡ held_after b s.tape.held s.tape.left xs
+pub play-held : (b : ℕ) (s : Sheet) (xs : List Action) → (play b s xs).held ≡ held_after b s.held s.left xs
 unfolding one
 play-held b s [] = refl
 play-held b s (x ∷ xs) = play-held b (one b s x) xs
 
 -- with room for all of them: the words and the count
-pub record Told (l : List ℕ) (t : Tape) (xs : List Action) (s : Sheet) : Type 0 where
-  pub words : s.words ≡ sets l (5 * t.count) (words_of_all xs)
-  pub count : s.tape.count ≡ t.count + length xs
+pub record Told (s : Sheet) (xs : List Action) (r : Sheet) : Type 0 where
+  pub words : r.words ≡ sets s.words (5 * s.count) (words_of_all xs)
+  pub count : r.count ≡ s.count + length xs
 
-pub told : (b : ℕ) (l : List ℕ) (t : Tape) (xs : List Action) → 5 * (t.count + length xs) ≤ length l → Told l t xs (play b (sheet l t) xs)
+pub told : (b : ℕ) (s : Sheet) (xs : List Action) → 5 * (s.count + length xs) ≤ length s.words → Told s xs (play b s xs)
 unfolding one
-told b l t [] h = record { words = refl; count = sym (add-zero t.count) }
-told b l t (x ∷ xs) h =
-    let room : room_for t.count (length l) ≡ true = le-leb (5 * t.count + 5) (length l) (omega arith) in
-    let l' : List ℕ = sets l (5 * t.count) (words_of x) in
-    let t' : Tape = record { count = t.count + 1; left = left_after t.left x; held = held_one b t.left x t.held } in
-    let long : length l' ≡ length l = length-sets l (5 * t.count) (words_of x) in
-    let r : Told l' t' xs (play b (sheet l' t') xs) = told b l' t' xs (omega arith) in
-    let e : 5 * (t.count + 1) ≡ 5 * t.count + length (words_of x) = omega (arith, length-words x) in
+told b s [] h = record { words = refl; count = sym (add-zero s.count) }
+told b s (x ∷ xs) h =
+    let room : room_for s.count (length s.words) ≡ true = le-leb (5 * s.count + 5) (length s.words) (omega arith) in
+    let w : List ℕ = sets s.words (5 * s.count) (words_of x) in
+    let s' : Sheet = record { words = w; count = s.count + 1; left = left_after s.left x; held = held_one b s.left x s.held } in
+    let long : length w ≡ length s.words = length-sets s.words (5 * s.count) (words_of x) in
+    let r : Told s' xs (play b s' xs) = told b s' xs (omega arith) in
+    let e : 5 * (s.count + 1) ≡ 5 * s.count + length (words_of x) = omega (arith, length-words x) in
     rw room
     (record {
-      words = r.words ∙ ap (λ (k : ℕ). sets l' k (words_of_all xs)) e ∙ sets-join (words_of x) l (5 * t.count) (words_of_all xs);
+      words = r.words ∙ ap (λ (k : ℕ). sets w k (words_of_all xs)) e ∙ sets-join (words_of x) s.words (5 * s.count) (words_of_all xs);
       count = omega (arith, r.count);
     })
 
 -- ---- as a function's contract says it
 
-module _ {b : ℕ} {l : List ℕ} {t : Tape} {xs : List Action} {l' : List ℕ} {t' : Tape} (e : Played b l t xs l' t') where
-  pub then : {ys : List Action} {l'' : List ℕ} {t'' : Tape} → Played b l' t' ys l'' t'' → Played b l t (xs ++ ys) l'' t''
-  then {ys} f = record { is = f.is ∙ ap (λ (s : Sheet). play b s ys) e.is ∙ sym (play-join b (sheet l t) xs ys) }
+pub unplayed : (t : Tape) → Played t [] t
+unplayed t = record { same = refl; base = refl; is = refl }
 
-  pub listed : {ys : List Action} → xs ≡ ys → Played b l t ys l' t'
+module _ {t : Tape} {xs : List Action} {t' : Tape} (e : Played t xs t') where
+  pub then : {ys : List Action} {t'' : Tape} → Played t' ys t'' → Played t (xs ++ ys) t''
+  then {ys} {t''} f =
+      record {
+        same = f.same ∙ e.same;
+        base = f.base ∙ e.base;
+        is =
+            f.is
+            ∙ ap (λ (b : ℕ). play b (sheet t') ys) e.base
+            ∙ ap (λ (s : Sheet). play t.base s ys) e.is
+            ∙ sym (play-join t.base (sheet t) xs ys);
+      }
+
+  -- the same, where the records that follow are those of the tape's own window
+  pub based : (ys : ℕ → List Action) {t'' : Tape} → Played t' (ys t'.base) t'' → Played t (xs ++ ys t.base) t''
+  based ys {t''} f = then (subst (λ (b : ℕ). Played t' (ys b) t'') e.base f)
+
+  pub listed : {ys : List Action} → xs ≡ ys → Played t ys t'
   listed q = rw q at e
 
-pub one-played : {b : ℕ} {l : List ℕ} {t : Tape} {x : Action} {l' : List ℕ} {t' : Tape} → sheet l' t' ≡ one b (sheet l t) x → Played b l t (x ∷ []) l' t'
-one-played e = record { is = e }
-
 -- from the front of the lent words, with room for all
-pub played : {b : ℕ} {l : List ℕ} {k : ℕ} {hs : List Held} {xs : List Action} {l' : List ℕ} {t : Tape}
-    → Played b l (record { count = 0; left = k; held = hs }) xs l' t → 5 * length xs ≤ length l
-    → (l' ≡ laid l xs) × ((t.count ≡ length xs) × (t.held ≡ held_after b hs k xs))
-played {b} {l} {k} {hs} {xs} e h =
-    let t₀ : Tape = record { count = 0; left = k; held = hs } in
-    let r : Told l t₀ xs (play b (sheet l t₀) xs) = told b l t₀ xs (omega arith) in (
-      ap (λ (s : Sheet). s.words) e.is ∙ r.words,
+pub played : {w : MutBor (List ℕ)} {b k : ℕ} {hs : List Held} {xs : List Action} {t t' : Tape}
+    → IsBegun w b k hs t → Played t xs t' → 5 * length xs ≤ length w.now
+    → (t'.words.now ≡ laid w.now xs) × ((t'.count ≡ length xs) × (t'.held ≡ held_after b hs k xs))
+played {w} {b} {k} {hs} {xs} {t} {t'} g e h =
+    let s₀ : Sheet = record { words = w.now; count = 0; left = k; held = hs } in
+    let q : sheet t' ≡ play b s₀ xs = e.is ∙ ap (λ (c : ℕ). play c (sheet t) xs) g.base ∙ ap (λ (s : Sheet). play b s xs) g.is in
+    let r : Told s₀ xs (play b s₀ xs) = told b s₀ xs (omega arith) in (
+      ap (λ (s : Sheet). s.words) q ∙ r.words,
       (
-        ap (λ (s : Sheet). s.tape.count) e.is ∙ r.count ∙ zero-add (length xs),
-        ap (λ (s : Sheet). s.tape.held) e.is ∙ play-held b (sheet l t₀) xs,
+        ap (λ (s : Sheet). s.count) q ∙ r.count ∙ zero-add (length xs),
+        ap (λ (s : Sheet). s.held) q ∙ play-held b s₀ xs,
       ),
     )

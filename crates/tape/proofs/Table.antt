@@ -1,6 +1,5 @@
 -- The held table: one record changes one queue's entries at most, and each entry is the fold of its own rule alone.
-use Rattle.std.proofs.Common.{◌≡◌, ℕ, ◌+◌, ◌-◌, ◌*◌, ◌/◌, ◌<◌, ◌≤◌, Bool, true, false, eqb, leb, List, [], ◌∷◌, length, get_or, set, sym, refl, ap, ◌∙◌, arith, ne_eqb, le-leb, leb-false, leb-true}
-use borrow.Author.Tests.{lt-leb}
+use Rattle.std.proofs.Common.{◌≡◌, ℕ, ◌<◌, ◌≤◌, Bool, true, false, eqb, List, [], ◌∷◌, length, get_or, set, sym, refl, ap, ◌∙◌, ne_eqb}
 use lib.Seq.{set_out}
 use Rattle.words.specs.Pick.{pick}
 use Rattle.words.specs.Lists.{each}
@@ -45,14 +44,3 @@ own-fold b hs k [] q h = refl
 own-fold b hs k (x ∷ xs) q h =
     own-fold b (each (held_queue b k x) hs) (left_after k x) xs q (rw (length-each (held_queue b k x) hs) h)
     ∙ ap (λ (e : Held). entry_after b q e (left_after k x) xs) (get_or-each (held_queue b k x) hs q no_held no_held h)
-
--- five words behind n records, tested without a product that could wrap
-pub room-by-quotient : (n w : ℕ) → 5 ≤ w → leb n ((w - 5) / 5) ≡ leb (5 * n + 5) w
-room-by-quotient n w h = go (leb n ((w - 5) / 5)) refl
-  where
-    go : (t : Bool) → leb n ((w - 5) / 5) ≡ t → leb n ((w - 5) / 5) ≡ leb (5 * n + 5) w
-    go true e = e ∙ sym (le-leb (5 * n + 5) w (omega (arith, leb-true n ((w - 5) / 5) e)))
-    go false e = e ∙ sym (lt-leb (5 * n + 5) w (omega (arith, leb-false n ((w - 5) / 5) e)))
-
-pub no_room : (n w : ℕ) → w < 5 → false ≡ leb (5 * n + 5) w
-no_room n w h = sym (lt-leb (5 * n + 5) w (omega arith))

@@ -1,19 +1,24 @@
 -- A record written: its words, the count of records, the answers left and the held table move on together (01, Actions).
 use Rattle.std.specs.Prelude.{◌≡◌, ℕ, ◌+◌, ◌*◌, Bool, List, [], ◌∷◌, length, nat_le}
+use Rattle.std.specs.Borrow.{MutBor}
 use Rattle.std.proofs.lemmas.List.Edits.{sets}
 use Rattle.words.specs.Pick.{pick}
 use Rattle.words.specs.Actions.{words_of, words_of_all}
 use Rattle.words.specs.declared.Action.{Action}
 use Rattle.tape.specs.Held.{held_one, left_after}
+use Rattle.tape.specs.declared.Held.{Held}
 use Rattle.tape.specs.declared.Tape.{Tape}
 
--- the lent words and the tape
+-- the lent words, the records in them, the answers left, the held table
 pub record Sheet : Type 0 where
   pub words : List ℕ
-  pub tape : Tape
+  pub count : ℕ
+  pub left : ℕ
+  pub held : List Held
 
-abbrev pub sheet : List ℕ → Tape → Sheet
-sheet l t = record { words = l; tape = t }
+-- what is on a tape
+abbrev pub sheet : Tape → Sheet
+sheet t = record { words = t.words.now; count = t.count; left = t.left; held = t.held }
 
 -- five words are left behind n records
 abbrev pub room_for : (n : ℕ) → (words : ℕ) → Bool
@@ -23,22 +28,29 @@ room_for n w = nat_le (5 * n + 5) w
 -- neither written nor counted.
 unfoldable pub one : (base : ℕ) → Sheet → Action → Sheet
 one b s x =
-    sheet
-    (pick (room_for s.tape.count (length s.words)) (sets s.words (5 * s.tape.count) (words_of x)) s.words)
-    (record {
-      count = pick (room_for s.tape.count (length s.words)) (s.tape.count + 1) s.tape.count;
-      left = left_after s.tape.left x;
-      held = held_one b s.tape.left x s.tape.held;
-    })
+    record {
+      words = pick (room_for s.count (length s.words)) (sets s.words (5 * s.count) (words_of x)) s.words;
+      count = pick (room_for s.count (length s.words)) (s.count + 1) s.count;
+      left = left_after s.left x;
+      held = held_one b s.left x s.held;
+    }
 
 -- one record after the other
 abbrev pub play : (base : ℕ) → Sheet → List Action → Sheet
 play b s [] = s
 play b s (x ∷ xs) = play b (one b s x) xs
 
--- from the words l and the tape t, the records xs were played: the words are then l', and the tape t'
-pub record Played (base : ℕ) (l : List ℕ) (t : Tape) (xs : List Action) (l' : List ℕ) (t' : Tape) : Type 0 where
-  pub is : sheet l' t' ≡ play base (sheet l t) xs
+-- a tape with nothing on it yet, over the lent words w
+pub record IsBegun (w : MutBor (List ℕ)) (b k : ℕ) (hs : List Held) (t : Tape) : Type 0 where
+  pub same : t.words.ghost_name ≡ w.ghost_name
+  pub base : t.base ≡ b
+  pub is : sheet t ≡ record { words = w.now; count = 0; left = k; held = hs }
+
+-- the records xs were played: the tape t is then t', over the same lent words and for the same window
+pub record Played (t : Tape) (xs : List Action) (t' : Tape) : Type 0 where
+  pub same : t'.words.ghost_name ≡ t.words.ghost_name
+  pub base : t'.base ≡ t.base
+  pub is : sheet t' ≡ play t.base (sheet t) xs
 
 -- the records' words over the front of l; "words past the last are unchanged"
 abbrev pub laid : List ℕ → List Action → List ℕ

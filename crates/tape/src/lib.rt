@@ -3,10 +3,9 @@
 
 #![tactic(auto)]
 
-ghost use Rattle.std.specs.Prelude.{◌≡◌, ℕ, ◌+◌, ◌*◌, ◌≤◌, length};
-ghost use Rattle.tape.specs.Actions.{answered};
+ghost use Rattle.std.specs.Prelude.{◌≡◌, ℕ, ◌+◌, ◌*◌, ◌≤◌, [], ◌∷◌, length};
+ghost use Rattle.tape.specs.Actions.{act, answered};
 ghost use Rattle.tape.specs.Held.{bell, bell_address, equal, held_one, held_queue, left_after, note, note_address, register, stands, unregister};
-ghost use Rattle.tape.specs.Play.{one, room_for, sheet};
 
 use virtq::{MAX_QUEUES, QueueIndex};
 use words::Action;
@@ -40,7 +39,7 @@ pub const ACTION_WRITE_CONFIG: u64 = 13;
 
 /// What a registration is made with.
 #[repr(C)]
-#[derive(Clone, Copy)]
+#[derive(Clone, Copy, PartialEq, Eq, Debug, Default)]
 pub struct Entry {
     pub queue: u64,
     pub address: u64,
@@ -50,28 +49,20 @@ pub struct Entry {
 
 /// Which of a queue's two registrations stand. Their operands follow from the queue's number and the window's base.
 #[repr(C)]
-#[derive(Clone, Copy)]
+#[derive(Clone, Copy, PartialEq, Eq, Debug, Default)]
 pub struct Held {
     pub bell: bool,
     pub note: bool,
-}
-
-/// How many records were written, how many more requests will be accepted, and the held table so far.
-#[derive(Clone, Copy)]
-pub struct Tape {
-    pub count: usize,
-    pub left: u32,
-    pub held: [Held; MAX_QUEUES],
 }
 
 /// A queue's doorbell: its own address, any length.
 pub fn bell_entry(base: u64, q: QueueIndex) -> Entry
     ensures { result ≡ bell base q.0 }
 {
-    let n = q.0 as u64;
+    let n = u64::from(q.0);
     Entry {
         queue: n,
-        address: std::num::wrapping_add_u64(base, 0x1000 + 4 * n),
+        address: base.wrapping_add(0x1000 + 4 * n),
         width: 0,
         value: 0,
     }
@@ -81,73 +72,66 @@ pub fn bell_entry(base: u64, q: QueueIndex) -> Entry
 pub fn note_entry(base: u64, q: QueueIndex) -> Entry
     ensures { result ≡ note base q.0 }
 {
-    let n = q.0 as u64;
+    let n = u64::from(q.0);
     Entry {
         queue: n,
-        address: std::num::wrapping_add_u64(base, 0x50),
+        address: base.wrapping_add(0x50),
         width: 4,
         value: n,
     }
 }
 
 impl Entry {
-    /// The request to register it.
-    pub fn register(self) -> Action
-        ensures { result ≡ register self }
+    fn action(self, kind: u64) -> Action
+        ensures { result ≡ act kind self.queue self.address self.width self.value }
     {
         Action {
-            kind: ACTION_REGISTER,
+            kind,
             a: self.queue,
             b: self.address,
             c: self.width,
             d: self.value,
         }
+    }
+
+    /// The request to register it.
+    pub fn register(self) -> Action
+        ensures { result ≡ register self }
+    {
+        self.action(ACTION_REGISTER)
     }
 
     /// The word to unregister it.
     pub fn unregister(self) -> Action
         ensures { result ≡ unregister self }
     {
-        Action {
-            kind: ACTION_UNREGISTER,
-            a: self.queue,
-            b: self.address,
-            c: self.width,
-            d: self.value,
-        }
+        self.action(ACTION_UNREGISTER)
     }
 
+    // Whether a record speaks of this very entry.
     fn equal(self, x: Action) -> bool
         ensures { result ≡ equal self x }
     {
-        if self.queue == x.a {
-            if self.width == x.c {
-                if self.address == x.b {
-                    return self.value == x.d;
-                }
-                return false;
-            }
-            return false;
-        }
-        false
+        let spoken_of = Entry {
+            queue: x.a,
+            address: x.b,
+            width: x.c,
+            value: x.d,
+        };
+        self == spoken_of
     }
 
     fn stands(self, left: u32, x: Action, was: bool) -> bool
         ensures { result ≡ stands self left x was }
     {
-        if self.equal(x) {
-            if x.kind == ACTION_REGISTER {
-                if left == 0 {
-                    return was;
-                }
-                return true;
-            }
-            if x.kind == ACTION_UNREGISTER {
-                return false;
-            }
+        if !self.equal(x) {
             return was;
         }
-        was
+        match x.kind {
+            ACTION_REGISTER => was || left != 0,
+            ACTION_UNREGISTER => false,
+            _ => was,
+        }
     }
 }
 
@@ -164,72 +148,85 @@ fn held_queue(h: Held, base: u64, left: u32, x: Action, q: QueueIndex) -> Held
 fn held_one(held: [Held; MAX_QUEUES], base: u64, left: u32, x: Action) -> [Held; MAX_QUEUES]
     ensures { result ≡ held_one base left x held }
 {
-    if x.a < 16 {
-        let i = x.a as usize;
-        let h = held[i];
-        let mut out = held;
-        out[i] = held_queue(h, base, left, x, QueueIndex(i as u32));
-        return out;
+    if x.a >= 16 {
+        return held;
     }
-    held
+    let i = x.a as usize;
+    let mut out = held;
+    out[i] = held_queue(held[i], base, left, x, QueueIndex(i as u32));
+    out
 }
 
 fn is_answered(kind: u64) -> bool
     ensures { result ≡ answered kind }
 {
-    match kind {
-        ACTION_REGISTER => true,
-        ACTION_ENABLE_INTERRUPTS => true,
-        ACTION_ACTIVATE => true,
-        ACTION_RESET_DEVICE => true,
-        ACTION_MODE => true,
-        ACTION_UPDATE => true,
-        ACTION_MASK => true,
-        ACTION_UNMASK => true,
-        _ => false,
-    }
+    matches!(
+        kind,
+        ACTION_REGISTER
+            | ACTION_ENABLE_INTERRUPTS
+            | ACTION_ACTIVATE
+            | ACTION_RESET_DEVICE
+            | ACTION_MODE
+            | ACTION_UPDATE
+            | ACTION_MASK
+            | ACTION_UNMASK
+    )
 }
 
 fn left_after(left: u32, x: Action) -> u32
     ensures { result ≡ left_after left x }
 {
     if is_answered(x.kind) {
-        if left == 0 {
-            return 0;
-        }
-        return left - 1;
+        left.saturating_sub(1)
+    } else {
+        left
     }
-    left
 }
 
-fn room_for(count: usize, words: usize) -> bool
-    ensures { result ≡ room_for count words }
-{
-    if words < 5 {
-        return false;
-    }
-    count <= (words - 5) / 5
+/// The action list of one operation as it is written: the lent words, the window's base, how many records stand in the words,
+/// how many more requests will be accepted, and the held table so far.
+#[derive(Drop)]
+pub struct Tape<'a> {
+    pub words: &'a mut [u64],
+    pub base: u64,
+    pub count: usize,
+    pub left: u32,
+    pub held: [Held; MAX_QUEUES],
 }
 
-/// Writes one record behind the others, and moves answers and held table on. Where five words are not left, the record is
-/// neither written nor counted.
-pub fn emit(actions: &mut [u64], t: Tape, base: u64, x: Action) -> Tape
-    ensures { sheet actions.new result ≡ one base (sheet actions.old t) x }
-{
-    let before = t.held;
-    let held = held_one(before, base, t.left, x);
-    let left = left_after(t.left, x);
-    if room_for(t.count, actions.len()) {
-        words::append(actions, 5 * t.count, x);
-        return Tape {
-            count: t.count + 1,
-            left,
+impl<'a> Tape<'a> {
+    ghost use Rattle.tape.specs.Play.{Played, room_for, IsBegun};
+
+    /// Nothing written yet, and k requests to be accepted.
+    pub fn new(words: &'a mut [u64], base: u64, k: u32, held: [Held; MAX_QUEUES]) -> Tape<'a>
+        ensures same_words { result.words.ghost_name ≡ words.entry.ghost_name }
+        ensures begun { IsBegun words.entry base k held result }
+    {
+        Tape {
+            words,
+            base,
+            count: 0,
+            left: k,
             held,
-        };
+        }
     }
-    Tape {
-        count: t.count,
-        left,
-        held,
+
+    fn has_room(&self) -> bool
+        ensures { result ≡ room_for self.now.count (length self.now.words.now) }
+    {
+        self.words.len() >= 5 && self.count <= (self.words.len() - 5) / 5
+    }
+
+    /// Writes one record behind the others, and moves answers and held table on. Where five words are not left, the record
+    /// is neither written nor counted.
+    pub fn emit(&mut self, x: Action)
+        ensures { Played self.old (x ∷ []) self.new }
+    {
+        self.held = held_one(self.held, self.base, self.left, x);
+        self.left = left_after(self.left, x);
+        if self.has_room() {
+            words::append(self.words, 5 * self.count, x);
+            self.count += 1;
+        }
     }
 }

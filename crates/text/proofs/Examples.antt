@@ -2,7 +2,7 @@
 -- and numerals at the ends of their range.
 use mathlib.Core.Path.{◌≡◌, refl}
 use mathlib.Core.List.{[], ◌∷◌}
-use Rattle.text.specs.Numerals.{digits, numeral, decimal, hex, pairs}
+use Rattle.text.specs.Numerals.{digits, numeral, decimal, hex}
 use Rattle.text.specs.Lines.{bad_line, end_line, record_line, reply_text}
 use Rattle.text.specs.Details.{action_line, field_line}
 
@@ -10,28 +10,28 @@ use Rattle.text.specs.Details.{action_line, field_line}
 pub first-line :
     record_line 1 1 [] 0
     ≡ 49 ∷ 32 ∷ 48 ∷ 49 ∷ 32 ∷ 45 ∷ 32 ∷ 48 ∷ 10 ∷ []
-unfolding record_line reply_text pairs numeral digits
+unfolding record_line reply_text numeral digits
 first-line = refl
 
 -- 2 01 01000000 0
 pub second-line :
     record_line 2 1 (1 ∷ 0 ∷ 0 ∷ 0 ∷ []) 0
     ≡ 50 ∷ 32 ∷ 48 ∷ 49 ∷ 32 ∷ 48 ∷ 49 ∷ 48 ∷ 48 ∷ 48 ∷ 48 ∷ 48 ∷ 48 ∷ 32 ∷ 48 ∷ 10 ∷ []
-unfolding record_line reply_text pairs numeral digits
+unfolding record_line reply_text numeral digits
 second-line = refl
 
 -- 3 81 - 0
 pub third-line :
     record_line 3 0x81 [] 0
     ≡ 51 ∷ 32 ∷ 56 ∷ 49 ∷ 32 ∷ 45 ∷ 32 ∷ 48 ∷ 10 ∷ []
-unfolding record_line reply_text pairs numeral digits
+unfolding record_line reply_text numeral digits
 third-line = refl
 
 -- 4 81 - 0
 pub fourth-line :
     record_line 4 0x81 [] 0
     ≡ 52 ∷ 32 ∷ 56 ∷ 49 ∷ 32 ∷ 45 ∷ 32 ∷ 48 ∷ 10 ∷ []
-unfolding record_line reply_text pairs numeral digits
+unfolding record_line reply_text numeral digits
 fourth-line = refl
 
 -- end 4
@@ -52,7 +52,7 @@ refused-line = refl
 pub two_bytes :
     reply_text (0 ∷ 0x80 ∷ [])
     ≡ 48 ∷ 48 ∷ 56 ∷ 48 ∷ []
-unfolding reply_text pairs
+unfolding reply_text
 two_bytes = refl
 
 --   1 0 d0001000 0 0

@@ -3,3 +3,4 @@ pub mod Numerals
 pub mod Lines
 pub mod Details
 pub mod Room
+pub mod Page

@@ -1,6 +1,7 @@
 -- Numbers as bytes of text: digits to a base, most significant first, and no zero before the first that counts. 01 ("The
 -- trace") prints record numbers and counts in decimal, the status and replies in lower-case hex.
 use Rattle.std.specs.Prelude.{List, [], ◌∷◌, ◌++◌, ℕ, zero, suc, ◌+◌, ◌-◌, ◌*◌, ◌/◌, ◌%◌, ltb}
+use Rattle.std.specs.List.{flat_map}
 use Rattle.words.specs.Pick.{pick}
 
 -- the byte of a digit: 0 to 9 from 48 on, a to f from 97 on
@@ -27,9 +28,8 @@ abbrev pub pair : (v : ℕ) → List ℕ
 pair v = glyph (v / 16 % 16) ∷ glyph (v % 16) ∷ []
 
 -- bytes in hex, two digits each, in their order
-unfoldable pub pairs : List ℕ → List ℕ
-pairs [] = []
-pairs (v ∷ vs) = pair v ++ pairs vs
+abbrev pub pairs : List ℕ → List ℕ
+pairs = flat_map pair
 
 -- what a reader makes of it: the value of a glyph, and of glyphs to the base b, with a read before them
 abbrev pub value_of : (glyph : ℕ) → ℕ

@@ -4,12 +4,7 @@
 #![tactic(auto)]
 
 ghost use Rattle.std.specs.Prelude.{◌≡◌, [], ◌∷◌, ◌+◌, ◌≤◌, ◌<◌, length};
-ghost use Rattle.words.specs.Actions.{Emitted};
-ghost use Rattle.words.specs.Pick.{pick};
 ghost use Rattle.text.specs.Numerals.{decimal, glyph, hex, numeral, pair, pairs};
-ghost use Rattle.text.specs.Lines.{bad_line, end_line, heading_line, record_line, reply_text, row, spaced};
-ghost use Rattle.text.specs.Details.{action_line, field_line};
-ghost use Rattle.text.specs.Room.{record_room, room};
 
 use words::Action;
 
@@ -22,323 +17,281 @@ pub const DETAIL_ROOM: usize = 128;
 /// The longest reply that is printed, in bytes.
 pub const LONGEST_REPLY: usize = 8;
 
-// ---- bytes
-
-fn put(out: &mut [u8], at: usize, b: u8) -> usize
-    requires { at + 1 ≤ length out.old }
-    ensures { Emitted out.old at (b ∷ []) out.new result }
-{
-    out[at] = b;
-    at + 1
+/// What the line of a queue's fields shows.
+#[derive(Clone, Copy)]
+pub struct Fields {
+    pub index: u32,
+    pub size: u32,
+    pub ready: u32,
+    pub desc: u64,
+    pub avail: u64,
+    pub used: u64,
 }
 
-fn put_bytes(out: &mut [u8], at: usize, word: &[u8]) -> usize
-    requires { at + length word.now ≤ length out.old }
-    ensures { Emitted out.old at word.now out.new result }
-{
-    let mut p = at;
-    let mut j = 0;
-    while j < word.len() {
-        p = put(out, p, word[j]);
-        j += 1;
-    }
-    p
+/// A lent buffer, and the place in it where the next byte goes.
+#[derive(Drop)]
+pub struct Page<'a> {
+    pub out: &'a mut [u8],
+    pub at: usize,
 }
-
-// ---- numbers
 
 fn digit(d: u64) -> u8
     requires { d < 16 }
     ensures { result ≡ glyph d }
 {
     if d < 10 {
-        return (48 + d) as u8;
+        b'0' + d as u8
+    } else {
+        b'a' - 10 + d as u8
     }
-    (87 + d) as u8
 }
 
-fn put_digit(out: &mut [u8], at: usize, d: u64) -> usize
-    requires { (d < 16) × (at + 1 ≤ length out.old) }
-    ensures { Emitted out.old at (glyph d ∷ []) out.new result }
-{
-    put(out, at, digit(d))
-}
+impl<'a> Page<'a> {
+    ghost use Rattle.text.specs.Lines.{bad_line, end_line, heading_line, record_line, reply_text, row, spaced};
+    ghost use Rattle.text.specs.Details.{action_line, field_line, hexes};
+    ghost use Rattle.text.specs.Room.{record_room, room};
+    ghost use Rattle.text.specs.Page.{Prints, PrintsIf, PrintsLine};
 
-// The digits of n to the base, which is 10 or 16: those of the quotient first, then the remainder.
-fn put_number(out: &mut [u8], at: usize, n: u64, base: u64) -> usize
-    requires { (10 ≤ base) × (base ≤ 16) × (at + length (numeral base n) ≤ length out.old) }
-    ensures { Emitted out.old at (numeral base n) out.new result }
-{
-    if n < base {
-        return put_digit(out, at, n);
+    /// The buffer from its front on.
+    pub fn new(out: &'a mut [u8]) -> Page<'a>
+        ensures same { result.out.ghost_name ≡ out.entry.ghost_name }
+        ensures front { result.at ≡ 0 }
+        ensures kept { result.out.now ≡ out.entry.now }
+    {
+        Page { out, at: 0 }
     }
-    let a = put_number(out, at, n / base, base);
-    put_digit(out, a, n % base)
-}
 
-// 20 digits hold every u64 in decimal.
-fn put_decimal(out: &mut [u8], at: usize, n: u64) -> usize
-    requires { at + 20 ≤ length out.old }
-    ensures emitted { Emitted out.old at (decimal n) out.new result }
-    ensures upper_bound { result ≤ at + 20 }
-{
-    put_number(out, at, n, 10)
-}
-
-// A space, then the number in decimal.
-fn next_decimal(out: &mut [u8], at: usize, n: u64) -> usize
-    requires { at + 21 ≤ length out.old }
-    ensures emitted { Emitted out.old at (spaced (decimal n)) out.new result }
-    ensures upper_bound { result ≤ at + 21 }
-{
-    let a = put(out, at, b' ');
-    put_decimal(out, a, n)
-}
-
-// A space, then the number in hex: 16 digits hold every u64.
-fn next_hex(out: &mut [u8], at: usize, n: u64) -> usize
-    requires { at + 17 ≤ length out.old }
-    ensures emitted { Emitted out.old at (spaced (hex n)) out.new result }
-    ensures upper_bound { result ≤ at + 17 }
-{
-    let a = put(out, at, b' ');
-    put_number(out, a, n, 16)
-}
-
-// ---- status and reply
-
-// The two low digits in hex.
-fn put_pair(out: &mut [u8], at: usize, v: u64) -> usize
-    requires { at + 2 ≤ length out.old }
-    ensures { Emitted out.old at (pair v) out.new result }
-{
-    let a = put_digit(out, at, v / 16 % 16);
-    put_digit(out, a, v % 16)
-}
-
-fn next_pair(out: &mut [u8], at: usize, v: u64) -> usize
-    requires { at + 3 ≤ length out.old }
-    ensures { Emitted out.old at (spaced (pair v)) out.new result }
-{
-    let a = put(out, at, b' ');
-    put_pair(out, a, v)
-}
-
-// A byte of a reply. A parameter carries its own range, so the wider number needs no bound.
-fn put_byte(out: &mut [u8], at: usize, v: u8) -> usize
-    requires { at + 2 ≤ length out.old }
-    ensures { Emitted out.old at (pair v) out.new result }
-{
-    put_pair(out, at, v as u64)
-}
-
-fn put_pairs(out: &mut [u8], at: usize, s: &[u8]) -> usize
-    requires { (length s.now ≤ 8) × (at + 16 ≤ length out.old) }
-    ensures emitted { Emitted out.old at (pairs s.now) out.new result }
-    ensures upper_bound { result ≤ at + 16 }
-{
-    let mut p = at;
-    let mut j = 0;
-    while j < s.len() {
-        p = put_byte(out, p, s[j]);
-        j += 1;
+    /// Whether so many bytes are left.
+    pub fn has_room(&self, need: usize) -> bool
+        ensures { result ≡ room need (length self.now.out.now) self.now.at }
+    {
+        need <= self.out.len() && self.at <= self.out.len() - need
     }
-    p
-}
 
-// A space, then the reply's bytes, or - for none.
-fn next_reply(out: &mut [u8], at: usize, s: &[u8]) -> usize
-    requires { (length s.now ≤ 8) × (at + 17 ≤ length out.old) }
-    ensures emitted { Emitted out.old at (spaced (reply_text s.now)) out.new result }
-    ensures upper_bound { result ≤ at + 17 }
-{
-    let a = put(out, at, b' ');
-    if s.len() == 0 {
-        return put(out, a, b'-');
+    // ---- bytes
+
+    fn put(&mut self, b: u8)
+        requires { self.old.at + 1 ≤ length self.old.out.now }
+        ensures { Prints 1 self.old (b ∷ []) self.new }
+    {
+        self.out[self.at] = b;
+        self.at += 1;
     }
-    put_pairs(out, a, s)
-}
 
-// ---- lines where there is room
-
-fn put_line(out: &mut [u8], at: usize, number: u64, status: u64, reply: &[u8], count: u64) -> usize
-    requires { (length reply.now ≤ 8) × (at + 64 ≤ length out.old) }
-    ensures emitted { Emitted out.old at (record_line number status reply.now count) out.new result }
-    ensures upper_bound { result ≤ at + 64 }
-{
-    let a = put_decimal(out, at, number);
-    let b = next_pair(out, a, status);
-    let c = next_reply(out, b, reply);
-    let d = next_decimal(out, c, count);
-    put(out, d, b'\n')
-}
-
-// A word of three letters, then a number.
-fn put_named(out: &mut [u8], at: usize, word: &[u8], n: u64) -> usize
-    requires { (length word.now ≡ 3) × (at + 64 ≤ length out.old) }
-    ensures emitted { Emitted out.old at (row word.now (decimal n ∷ [])) out.new result }
-    ensures upper_bound { result ≤ at + 64 }
-{
-    let a = put_bytes(out, at, word);
-    let b = next_decimal(out, a, n);
-    put(out, b, b'\n')
-}
-
-fn put_action(out: &mut [u8], at: usize, kind: u64, a: u64, b: u64, c: u64, d: u64) -> usize
-    requires { at + 128 ≤ length out.old }
-    ensures emitted { Emitted out.old at (row (32 ∷ []) (hex kind ∷ hex a ∷ hex b ∷ hex c ∷ hex d ∷ [])) out.new result }
-    ensures upper_bound { result ≤ at + 128 }
-{
-    let p = put(out, at, b' ');
-    let q = next_hex(out, p, kind);
-    let s = next_hex(out, q, a);
-    let t = next_hex(out, s, b);
-    let u = next_hex(out, t, c);
-    let v = next_hex(out, u, d);
-    put(out, v, b'\n')
-}
-
-fn put_queue(out: &mut [u8], at: usize, index: u64) -> usize
-    requires { at + 24 ≤ length out.old }
-    ensures emitted { Emitted out.old at (32 ∷ 32 ∷ 113 ∷ spaced (decimal index)) out.new result }
-    ensures upper_bound { result ≤ at + 24 }
-{
-    let a = put_bytes(out, at, b"  q");
-    next_decimal(out, a, index)
-}
-
-fn put_fields(
-    out: &mut [u8],
-    at: usize,
-    index: u64,
-    size: u64,
-    ready: u64,
-    desc: u64,
-    avail: u64,
-    used: u64,
-) -> usize
-    requires { at + 128 ≤ length out.old }
-    ensures emitted { Emitted out.old at (field_line index size ready desc avail used) out.new result }
-    ensures upper_bound { result ≤ at + 128 }
-{
-    let a = put_queue(out, at, index);
-    let b = next_hex(out, a, size);
-    let c = next_hex(out, b, ready);
-    let d = next_hex(out, c, desc);
-    let e = next_hex(out, d, avail);
-    let f = next_hex(out, e, used);
-    put(out, f, b'\n')
-}
-
-// ---- lines where there may be none
-
-/// Whether so many bytes are left, from a place on, of a buffer of this length.
-pub fn has_room(need: usize, len: usize, at: usize) -> bool
-    ensures { result ≡ room need len at }
-{
-    if len < need {
-        return false;
+    fn put_bytes(&mut self, word: &[u8])
+        requires { self.old.at + length word.now ≤ length self.old.out.now }
+        ensures { Prints (length word.now) self.old word.now self.new }
+    {
+        let at = self.at;
+        let end = at + word.len();
+        self.out[at..end].copy_from_slice(word);
+        self.at = end;
     }
-    at <= len - need
-}
 
-fn has_record_room(reply: usize, len: usize, at: usize) -> bool
-    ensures { result ≡ record_room reply len at }
-{
-    if LONGEST_REPLY < reply {
-        return false;
-    }
-    has_room(LINE_ROOM, len, at)
-}
+    // ---- numbers
 
-/// The heading.
-pub fn heading(out: &mut [u8], at: usize) -> usize
-    ensures emitted { Emitted out.old at (pick (room 64 (length out.old) at) heading_line []) out.new result }
-    ensures upper_bound { result ≤ at + 64 }
-{
-    if has_room(LINE_ROOM, out.len(), at) {
-        return put_bytes(out, at, b"op status reply actions\n");
+    // The digits of n to the base, which is 10 or 16: those of the quotient first, then the remainder.
+    // Kept by hand: `write!` may answer an error in place of the text, and its promise doesn't say when.
+    fn put_number(&mut self, n: u64, base: u64)
+        requires { (10 ≤ base) × (base ≤ 16) × (self.old.at + length (numeral base n) ≤ length self.old.out.now) }
+        ensures { Prints (length (numeral base n)) self.old (numeral base n) self.new }
+    {
+        if n < base {
+            self.put(digit(n));
+        } else {
+            self.put_number(n / base, base);
+            self.put(digit(n % base));
+        }
     }
-    at
-}
 
-/// A record's line: its number, the two low digits of the status, the reply, and how many actions there were. A reply of more
-/// than 8 bytes counts as no room.
-pub fn line(
-    out: &mut [u8],
-    at: usize,
-    number: u32,
-    status: u32,
-    reply: &[u8],
-    count: usize,
-) -> usize
-    ensures emitted { Emitted out.old at (pick (record_room (length reply.now) (length out.old) at) (record_line number status reply.now count) []) out.new result }
-    ensures upper_bound { result ≤ at + 64 }
-{
-    if has_record_room(reply.len(), out.len(), at) {
-        return put_line(out, at, number as u64, status as u64, reply, count as u64);
+    // 20 digits hold every u64 in decimal.
+    fn put_decimal(&mut self, n: u64)
+        requires { self.old.at + 20 ≤ length self.old.out.now }
+        ensures { Prints 20 self.old (decimal n) self.new }
+    {
+        self.put_number(n, 10);
     }
-    at
-}
 
-/// The last line of a good trace: how many records it has.
-pub fn end(out: &mut [u8], at: usize, n: u32) -> usize
-    ensures emitted { Emitted out.old at (pick (room 64 (length out.old) at) (end_line n) []) out.new result }
-    ensures upper_bound { result ≤ at + 64 }
-{
-    if has_room(LINE_ROOM, out.len(), at) {
-        return put_named(out, at, b"end", n as u64);
+    // A space, then the number in decimal.
+    fn next_decimal(&mut self, n: u64)
+        requires { self.old.at + 21 ≤ length self.old.out.now }
+        ensures { Prints 21 self.old (spaced (decimal n)) self.new }
+    {
+        self.put(b' ');
+        self.put_decimal(n);
     }
-    at
-}
 
-/// The only line of a bad file: the number of what is wrong with it.
-pub fn bad(out: &mut [u8], at: usize, n: u32) -> usize
-    ensures emitted { Emitted out.old at (pick (room 64 (length out.old) at) (bad_line n) []) out.new result }
-    ensures upper_bound { result ≤ at + 64 }
-{
-    if has_room(LINE_ROOM, out.len(), at) {
-        return put_named(out, at, b"bad", n as u64);
+    // A space, then the number in hex: 16 digits hold every u64.
+    fn next_hex(&mut self, n: u64)
+        requires { self.old.at + 17 ≤ length self.old.out.now }
+        ensures { Prints 17 self.old (spaced (hex n)) self.new }
+    {
+        self.put(b' ');
+        self.put_number(n, 16);
     }
-    at
-}
 
-/// An action record's line.
-pub fn action_line(out: &mut [u8], at: usize, x: Action) -> usize
-    ensures emitted { Emitted out.old at (pick (room 128 (length out.old) at) (action_line x) []) out.new result }
-    ensures upper_bound { result ≤ at + 128 }
-{
-    if has_room(DETAIL_ROOM, out.len(), at) {
-        return put_action(out, at, x.kind, x.a, x.b, x.c, x.d);
-    }
-    at
-}
+    // ---- status and reply
 
-/// The line of a queue's fields.
-pub fn field_line(
-    out: &mut [u8],
-    at: usize,
-    index: u32,
-    size: u32,
-    ready: u32,
-    desc: u64,
-    avail: u64,
-    used: u64,
-) -> usize
-    ensures emitted { Emitted out.old at (pick (room 128 (length out.old) at) (field_line index size ready desc avail used) []) out.new result }
-    ensures upper_bound { result ≤ at + 128 }
-{
-    if has_room(DETAIL_ROOM, out.len(), at) {
-        return put_fields(
-            out,
-            at,
-            index as u64,
-            size as u64,
-            ready as u64,
-            desc,
-            avail,
-            used,
-        );
+    // The two low digits in hex.
+    fn put_pair(&mut self, v: u32)
+        requires { self.old.at + 2 ≤ length self.old.out.now }
+        ensures { Prints 2 self.old (pair v) self.new }
+    {
+        self.put(digit(u64::from(v / 16 % 16)));
+        self.put(digit(u64::from(v % 16)));
     }
-    at
+
+    fn put_pairs(&mut self, s: &[u8])
+        requires { (length s.now ≤ 8) × (self.old.at + 16 ≤ length self.old.out.now) }
+        ensures { Prints 16 self.old (pairs s.now) self.new }
+    {
+        for b in s {
+            self.put_pair(u32::from(*b));
+        }
+    }
+
+    // A space, then the reply's bytes, or - for none.
+    fn next_reply(&mut self, s: &[u8])
+        requires { (length s.now ≤ 8) × (self.old.at + 17 ≤ length self.old.out.now) }
+        ensures { Prints 17 self.old (spaced (reply_text s.now)) self.new }
+    {
+        self.put(b' ');
+        if s.is_empty() {
+            self.put(b'-');
+        } else {
+            self.put_pairs(s);
+        }
+    }
+
+    // A column of hex to each number.
+    fn put_hexes(&mut self, ns: [u64; 5])
+        requires { self.old.at + 85 ≤ length self.old.out.now }
+        ensures { Prints 85 self.old (hexes ns) self.new }
+    {
+        for n in ns {
+            self.next_hex(n);
+        }
+    }
+
+    fn put_newline(&mut self)
+        requires { self.old.at + 1 ≤ length self.old.out.now }
+        ensures { Prints 1 self.old (10 ∷ []) self.new }
+    {
+        self.put(b'\n');
+    }
+
+    // ---- lines where there is room
+
+    fn put_line(&mut self, number: u32, status: u32, reply: &[u8], count: usize)
+        requires { (length reply.now ≤ 8) × (self.old.at + 64 ≤ length self.old.out.now) }
+        ensures { Prints 64 self.old (record_line number status reply.now count) self.new }
+    {
+        self.put_decimal(u64::from(number));
+        self.put(b' ');
+        self.put_pair(status);
+        self.next_reply(reply);
+        self.next_decimal(count as u64);
+        self.put_newline();
+    }
+
+    // A word of three letters, then a number.
+    fn put_named(&mut self, word: &[u8; 3], n: u32)
+        requires { self.old.at + 64 ≤ length self.old.out.now }
+        ensures { Prints 64 self.old (row word.now (decimal n ∷ [])) self.new }
+    {
+        self.put_bytes(word);
+        self.next_decimal(u64::from(n));
+        self.put_newline();
+    }
+
+    fn put_action(&mut self, x: Action)
+        requires { self.old.at + 128 ≤ length self.old.out.now }
+        ensures { Prints 128 self.old (action_line x) self.new }
+    {
+        self.put(b' ');
+        self.put_hexes([x.kind, x.a, x.b, x.c, x.d]);
+        self.put_newline();
+    }
+
+    fn put_fields(&mut self, f: Fields)
+        requires { self.old.at + 128 ≤ length self.old.out.now }
+        ensures { Prints 128 self.old (field_line f.index f.size f.ready f.desc f.avail f.used) self.new }
+    {
+        self.put_bytes(b"  q");
+        self.next_decimal(u64::from(f.index));
+        self.put_hexes([
+            u64::from(f.size),
+            u64::from(f.ready),
+            f.desc,
+            f.avail,
+            f.used,
+        ]);
+        self.put_newline();
+    }
+
+    // ---- lines where there may be none
+
+    fn has_record_room(&self, reply: usize) -> bool
+        ensures { result ≡ record_room reply (length self.now.out.now) self.now.at }
+    {
+        reply <= LONGEST_REPLY && self.has_room(LINE_ROOM)
+    }
+
+    /// The heading.
+    #[tactic(auto, unfolding(crate::specs::Lines::heading_line))]
+    pub fn heading(&mut self)
+        ensures { PrintsLine 64 self.old heading_line self.new }
+    {
+        if self.has_room(LINE_ROOM) {
+            self.put_bytes(b"op status reply actions\n");
+        }
+    }
+
+    /// A record's line: its number, the two low digits of the status, the reply, and how many actions there were. A reply of more
+    /// than 8 bytes counts as no room.
+    pub fn line(&mut self, number: u32, status: u32, reply: &[u8], count: usize)
+        ensures { PrintsIf (record_room (length reply.now) (length self.old.out.now) self.old.at) 64 self.old (record_line number status reply.now count) self.new }
+    {
+        if self.has_record_room(reply.len()) {
+            self.put_line(number, status, reply, count);
+        }
+    }
+
+    /// The last line of a good trace: how many records it has.
+    #[tactic(auto, unfolding(crate::specs::Lines::end_line))]
+    pub fn end(&mut self, n: u32)
+        ensures { PrintsLine 64 self.old (end_line n) self.new }
+    {
+        if self.has_room(LINE_ROOM) {
+            self.put_named(b"end", n);
+        }
+    }
+
+    /// The only line of a bad file: the number of what is wrong with it.
+    #[tactic(auto, unfolding(crate::specs::Lines::bad_line))]
+    pub fn bad(&mut self, n: u32)
+        ensures { PrintsLine 64 self.old (bad_line n) self.new }
+    {
+        if self.has_room(LINE_ROOM) {
+            self.put_named(b"bad", n);
+        }
+    }
+
+    /// An action record's line.
+    pub fn action_line(&mut self, x: Action)
+        ensures { PrintsLine 128 self.old (action_line x) self.new }
+    {
+        if self.has_room(DETAIL_ROOM) {
+            self.put_action(x);
+        }
+    }
+
+    /// The line of a queue's fields.
+    pub fn field_line(&mut self, f: Fields)
+        ensures { PrintsLine 128 self.old (field_line f.index f.size f.ready f.desc f.avail f.used) self.new }
+    {
+        if self.has_room(DETAIL_ROOM) {
+            self.put_fields(f);
+        }
+    }
 }

@@ -4,17 +4,24 @@ use mathlib.Core.Path.{◌≡◌, refl, sym, ap, ◌∙◌}
 use mathlib.Core.List.{List}
 use Prim.Native.Nat.{ℕ, zero, suc, ◌+◌, ◌-◌, ◌<◌, ◌≤◌}
 use native.Mathlib.Omega.{arith}
-use borrow.Author.Tests.{eqb-true, eqb-false, ne_eqb, leb-true, lt-ltb, le-ltb}
+use borrow.Author.Tests.{eqb-true, eqb-false, ne_eqb, leb-true, lt-ltb}
 use lib.Dec.{eqb, leb, ltb}
 use lib.ListN.{length}
 use Rattle.words.specs.Pick.{pick}
 use Rattle.words.proofs.Picks.{pick-both}
-use Rattle.mmio_v2.specs.Fresh.{refusal}
+use Rattle.words.specs.Refusals.{refusal_number, told}
+use Rattle.words.specs.declared.Refusal.{Refusal}
+use Rattle.words.proofs.Refusals.{some_number}
+use Rattle.mmio_config.specs.declared.Configuration.{Configuration}
+use Rattle.mmio_v2.specs.Fresh.{made_device, made_of, new_device, refusal}
+use Rattle.mmio_v2.specs.declared.MmioV2Device.{MmioV2Device}
+use Rattle.mmio_v2.specs.declared.MadeDevice.{MadeDevice}
+use Rattle.mmio_v2.proofs.Making.{made_new}
 use Rattle.trace.specs.Numbers.{word_at}
 use Rattle.trace.specs.Form.{known_version, block_place, records_place, pool_place}
 use Rattle.trace.specs.Block.{block_at}
-use Rattle.trace.specs.Verdict.{count, pool_length, counted, laid, layout_of, judged_of, or_else, judged_from, record_of, verdict_of, Good, next_at, number_of}
-use Rattle.trace.specs.declared.Next.TheVariants.{End, Bad, One}
+use Rattle.trace.specs.Verdict.{count, pool_length, laid, layout_of, judged_of, or_else, judged_from, record_of, verdict_of, Good, next_at, number_of}
+use Rattle.std.specs.Prelude.{Some, None, Result, Ok, Err}
 
 -- ---- a layout with nothing wrong
 
@@ -32,8 +39,8 @@ laid_out s e = right (ltb (length s) 24) (ltb 65536 (length s)) (known_version (
     right false false true false e = absurd (no e (omega arith))
     right false false false d e = absurd (no e (omega arith))
 
-pub laid-few : (s : List ℕ) → layout_of s ≡ 0 → count s ≤ 2000
-laid-few s e = leb-true (count s) 2000 (pick-both (leb (count s) 2000) _ (laid_out s e)).0
+pub laid_few : (s : List ℕ) → layout_of s ≡ 0 → count s ≤ 2000
+laid_few s e = leb-true (count s) 2000 (pick-both (leb (count s) 2000) _ (laid_out s e)).0
 
 -- the pool ends where the bytes do
 pub laid-whole : (s : List ℕ) → layout_of s ≡ 0 → pool_place (count s) + pool_length s ≡ length s
@@ -44,67 +51,31 @@ laid-whole s e =
     (pick-both (eqb (word_at s 8) block_place) _
     (pick-both (leb (count s) 2000) _ (laid_out s e)).1).1).1).1
 
--- ---- the records, one by one
-
--- those before i may run
-pub record Judging (s : List ℕ) (n i bad : ℕ) : Type 0 where
-  pub rest : judged_from s i (n - i) ≡ judged_from s 0 n
-  pub within : i ≤ n
-  pub none : bad ≡ 0
-
-pub judging-first : (s : List ℕ) (n : ℕ) → Judging s n 0 0
-judging-first s n = let e : n - 0 ≡ n = omega arith in record { rest = ap (judged_from s 0) e; within = omega arith; none = refl }
+-- ---- the records, one by one: what is wrong from record i on is what is wrong in all
 
 one_more : (s : List ℕ) (i n : ℕ) → i < n → judged_from s i (n - i) ≡ or_else (judged_of s i) (judged_from s (i + 1) (n - (i + 1)))
 unfolding judged_from
 one_more s i n h = let e : n - i ≡ suc (n - (i + 1)) = omega arith in ap (judged_from s i) e
 
-module _ {s : List ℕ} {n i bad : ℕ} (g : Judging s n i bad) where
-  pub judging-more : i < n → judged_of s i ≡ 0 → Judging s n (i + 1) bad
-  judging-more h e =
-      record {
-        rest = sym (one_more s i n h ∙ ap (λ (j : ℕ). or_else j (judged_from s (i + 1) (n - (i + 1)))) e) ∙ g.rest;
-        within = omega arith;
-        none = g.none;
-      }
+module _ (s : List ℕ) (n i : ℕ) (g : judged_from s i (n - i) ≡ judged_from s 0 n) where
+  pub judging_more : i < n → 0 ≡ judged_of s i → judged_from s (i + 1) (n - (i + 1)) ≡ judged_from s 0 n
+  judging_more h e = sym (one_more s i n h ∙ ap (λ (j : ℕ). or_else j (judged_from s (i + 1) (n - (i + 1)))) (sym e)) ∙ g
 
-  pub judging-last : n ≤ i → bad ≡ judged_from s 0 n
+  pub judging_stop : (e : Refusal) → i < n → refusal_number e ≡ judged_of s i → refusal_number e ≡ judged_from s 0 n
+  judging_stop e h q =
+      let z : eqb (refusal_number e) 0 ≡ false = ne_eqb (refusal_number e) 0 (some_number e) in
+      sym (rw z refl) ∙ ap (λ (j : ℕ). or_else j (judged_from s (i + 1) (n - (i + 1)))) q ∙ sym (one_more s i n h) ∙ g
+
+  pub judging_last : n ≤ i → 0 ≡ judged_from s 0 n
   unfolding judged_from
-  judging-last h =
-      let e : n - i ≡ 0 = omega arith in
-      g.none ∙ sym (ap (judged_from s i) e) ∙ g.rest
-
-  pub judging-stop : (j : ℕ) → i < n → j ≡ judged_of s i → (j ≡ 0 → ⊥) → j ≡ judged_from s 0 n
-  judging-stop j h e f =
-      let z : eqb (judged_of s i) 0 ≡ false = ne_eqb (judged_of s i) 0 (λ w. f (e ∙ w)) in
-      e ∙ sym (one_more s i n h ∙ rw z) ∙ g.rest
-
--- ---- how many
-
-pub count-some : (s : List ℕ) (n : ℕ) → layout_of s ≡ 0 → n ≡ count s → n ≡ counted s
-count-some s n e h = h ∙ rw e
-
-pub count_none : (s : List ℕ) (l : ℕ) → l ≡ layout_of s → (l ≡ 0 → ⊥) → ◌≡◌ {A = ℕ} 0 (counted s)
-count_none s l e f = rw (ne_eqb (layout_of s) 0 (λ w. f (e ∙ w)))
+  judging_last h = let e : n - i ≡ 0 = omega arith in sym (ap (judged_from s i) e) ∙ g
 
 -- ---- one place
 
 module _ (s : List ℕ) (i : ℕ) where
-  pub next_one : layout_of s ≡ 0 → i < count s → judged_of s i ≡ 0 → One (record_of s i) ≡ next_at s i
+  pub next_one : layout_of s ≡ 0 → i < count s → judged_of s i ≡ 0 → Ok (Some (record_of s i)) ≡ next_at s i
   unfolding next_at
   next_one e h j = rw (e, lt-ltb i (count s) h, j)
-
-  pub next-bad : (n : ℕ) → layout_of s ≡ 0 → i < count s → n ≡ judged_of s i → (n ≡ 0 → ⊥) → Bad n ≡ next_at s i
-  unfolding next_at
-  next-bad n e h j f = rw (e, lt-ltb i (count s) h, ne_eqb (judged_of s i) 0 (λ w. f (j ∙ w)), j)
-
-  pub next-end : layout_of s ≡ 0 → count s ≤ i → End ≡ next_at s i
-  unfolding next_at
-  next-end e h = rw (e, le-ltb i (count s) h)
-
-  pub next-wrong : (n : ℕ) → n ≡ layout_of s → (n ≡ 0 → ⊥) → Bad n ≡ next_at s i
-  unfolding next_at
-  next-wrong n e f = rw (ne_eqb (layout_of s) 0 (λ w. f (e ∙ w)), e)
 
   -- the number of what stands there: the layout's, else the record's, and 0 past the last
   pub next-number : number_of (next_at s i) ≡ or_else (layout_of s) (pick (ltb i (count s)) (judged_of s i) 0)
@@ -112,28 +83,21 @@ module _ (s : List ℕ) (i : ℕ) where
   next-number = go (eqb (layout_of s) 0) (ltb i (count s)) (eqb (judged_of s i) 0) refl
     where
       go : (a b c : Bool) → eqb (judged_of s i) 0 ≡ c
-          → number_of (pick a (pick b (pick c (One (record_of s i)) (Bad (judged_of s i))) End) (Bad (layout_of s))) ≡ pick a (pick b (judged_of s i) 0) (layout_of s)
+          → number_of (pick a (pick b (pick c (Ok (Some (record_of s i))) (Err (judged_of s i))) (Ok None)) (Err (layout_of s))) ≡ pick a (pick b (judged_of s i) 0) (layout_of s)
       go true true true e = sym (eqb-true (judged_of s i) 0 e)
       go true true false e = refl
       go true false c e = refl
       go false b c e = refl
 
--- ---- the verdict
+-- ---- the verdict: layout and records right, and the configuration's refusal or none
 
-module _ (s : List ℕ) where
-  pub verdict-good : layout_of s ≡ 0 → judged_from s 0 (count s) ≡ 0 → refusal (block_at s) ≡ verdict_of s
-  unfolding verdict_of
-  verdict-good e j = rw (e, j)
+told-made : (r : Result MmioV2Device Refusal) → told r ≡ (made_of r).refusal
+told-made (Ok d) = refl
+told-made (Err e) = refl
 
-  pub verdict-record : (n : ℕ) → layout_of s ≡ 0 → n ≡ judged_from s 0 (count s) → (n ≡ 0 → ⊥) → n ≡ verdict_of s
-  unfolding verdict_of
-  verdict-record n e j f =
-      let z : eqb (judged_from s 0 (count s)) 0 ≡ false = ne_eqb (judged_from s 0 (count s)) 0 (λ w. f (j ∙ w)) in
-      j ∙ rw (e, z)
-
-  pub verdict-layout : (n : ℕ) → n ≡ layout_of s → (n ≡ 0 → ⊥) → n ≡ verdict_of s
-  unfolding verdict_of
-  verdict-layout n e f = let z : eqb (layout_of s) 0 ≡ false = ne_eqb (layout_of s) 0 (λ w. f (e ∙ w)) in e ∙ rw z
+pub told_new : (r : Result MmioV2Device Refusal) (k : Configuration) → r ≡ new_device k → told r ≡ refusal k
+unfolding made_device
+told_new r k q = told-made r ∙ ap (λ (x : Result MmioV2Device Refusal). (made_of x).refusal) q ∙ ap (λ (x : MadeDevice). x.refusal) (made_new k)
 
 -- ---- BOTH WAYS: the verdict is 0 exactly for a trace that may run
 

@@ -1,6 +1,6 @@
 -- The verdict on any bytes (01, The trace): "Layout, then record by record (11 before 12 in each), then configuration are
 -- checked before anything runs". 0 where the trace may run. Sums are of whole numbers: none wraps.
-use Rattle.std.specs.Prelude.{Bool, false, ◌≡◌, List, ℕ, zero, suc, ◌+◌, ◌*◌, ◌<◌, eqb, leb, ltb, length}
+use Rattle.std.specs.Prelude.{Bool, false, ◌≡◌, List, ℕ, zero, suc, ◌+◌, ◌*◌, ◌<◌, eqb, leb, ltb, length, Option, Some, None, Result, Ok, Err}
 use Rattle.words.specs.Pick.{pick}
 use Rattle.mmio_v2.specs.Fresh.{refusal}
 use Rattle.trace.specs.Numbers.{word_at}
@@ -8,8 +8,6 @@ use Rattle.trace.specs.Form.{known_version, block_place, records_place, pool_pla
 use Rattle.trace.specs.Block.{block_at}
 use Rattle.trace.specs.Records.{record_at, judged}
 use Rattle.trace.specs.declared.Record.{Record}
-use Rattle.trace.specs.declared.Next.{Next}
-use Rattle.trace.specs.declared.Next.TheVariants.{End, Bad, One}
 
 -- ---- the layout: "u32s: version 1, record count (at most 2,000), offsets 24, 264 and 264 + 24 × count, pool length up to
 -- the file's end"
@@ -77,17 +75,16 @@ pub record Good (s : List ℕ) : Type 0 where
 
 -- ---- one place of it
 
--- the record at place i, if there is one and it may run
-unfoldable pub next_at : List ℕ → (i : ℕ) → Next
+-- the record at place i, if there is one and it may run; else the number of what is wrong
+unfoldable pub next_at : List ℕ → (i : ℕ) → Result (Option Record) ℕ
 next_at s i =
     pick (eqb (layout_of s) 0)
     (pick (ltb i (count s))
-    (pick (eqb (judged_of s i) 0) (One (record_of s i)) (Bad (judged_of s i)))
-    End)
-    (Bad (layout_of s))
+    (pick (eqb (judged_of s i) 0) (Ok (Some (record_of s i))) (Err (judged_of s i)))
+    (Ok None))
+    (Err (layout_of s))
 
 -- 01's number of each answer: 0 where nothing is wrong
-abbrev pub number_of : Next → ℕ
-number_of End = 0
-number_of (Bad n) = n
-number_of (One r) = 0
+abbrev pub number_of : Result (Option Record) ℕ → ℕ
+number_of (Ok r) = 0
+number_of (Err n) = n

@@ -1,6 +1,7 @@
 -- Any two results that a promise of this floor allows are equal.
 use mathlib.Core.Path.{◌≡◌, sym, ◌∙◌}
 use Rattle.virtq.proofs.QueueIndex.vector.Reads as vectors
+use Rattle.virtq.proofs.FieldTryFromU32.try_from.Reads as tried-numbers
 use Rattle.virtq.proofs.field_numbered.Reads as numbers
 use Rattle.virtq.proofs.size_fit.Reads as sizes
 use Rattle.virtq.proofs.fit.Reads as fits
@@ -44,3 +45,6 @@ first-invalid-determined κs a r r' s s' p q = p ∙ sym q
 
 pub address-determined : (κs : _) (a : _) (r r' : _) (s s' : _) → addresses.Post κs a r s → addresses.Post κs a r' s' → r ≡ r'
 address-determined κs a r r' s s' p q = p ∙ sym q
+
+pub try-from-determined : (κs : _) (a : _) (r r' : _) (s s' : _) → tried-numbers.Post κs a r s → tried-numbers.Post κs a r' s' → r ≡ r'
+try-from-determined κs a r r' s s' p q = p ∙ sym q

@@ -1,7 +1,9 @@
 -- A queue's eight fields, one for each queue-field register: fresh values, what is fit, and what a counting write sets (01,
 -- "Queue fields, counting writes and wipes").
-use Rattle.std.specs.Prelude.{Bool, true, false, List, ℕ, zero, suc, ◌%◌, ◌^◌, eqb, leb, get_or}
+use Rattle.std.specs.Prelude.{Bool, true, false, List, ℕ, zero, suc, ◌%◌, ◌^◌, eqb, leb, ltb, get_or, Result, Ok, Err}
 use Rattle.words.specs.Pick.{pick}
+use Rattle.words.specs.declared.Refusal.{Refusal}
+use Rattle.words.specs.declared.Refusal.TheVariants.{UnknownQueue}
 use Rattle.virtq.specs.declared.Queue.{Queue}
 use Rattle.virtq.specs.declared.Field.{Field}
 use Rattle.virtq.specs.declared.Field.TheVariants.{Size, Ready, DescLow, DescHigh, AvailLow, AvailHigh, UsedLow, UsedHigh}
@@ -25,6 +27,10 @@ field_numbered n =
     (pick (eqb n 2) DescLow
     (pick (eqb n 3) DescHigh
     (pick (eqb n 4) AvailLow (pick (eqb n 5) AvailHigh (pick (eqb n 6) UsedLow UsedHigh))))))
+
+-- a number past them names no field of any queue
+abbrev pub field_with_number : ℕ → Result Field Refusal
+field_with_number n = pick (ltb n 8) (Ok (field_numbered n)) (Err UnknownQueue)
 
 abbrev pub same : Field → Field → Bool
 same f g = eqb (number_of f) (number_of g)

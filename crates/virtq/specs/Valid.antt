@@ -1,12 +1,11 @@
 -- When a queue is valid, and the scan that stops at the first that isn't (01, "Queue fields, counting writes and wipes";
 -- the areas are those of virtio 1.2, 2.7).
-use Rattle.std.specs.Prelude.{Bool, false, ℕ, zero, suc, ◌+◌, ◌*◌, ◌^◌, eqb, leb}
+use Rattle.std.specs.Prelude.{Bool, false, ℕ, zero, suc, ◌+◌, ◌*◌, ◌^◌, eqb, leb, Option, Some, None}
 use Rattle.words.specs.Pick.{pick}
 use Rattle.virtq.specs.declared.Memory.{Memory}
 use Rattle.virtq.specs.declared.Field.{Field}
 use Rattle.virtq.specs.declared.Field.TheVariants.{Size, Ready, DescLow, DescHigh, AvailLow, AvailHigh, UsedLow, UsedHigh}
-use Rattle.virtq.specs.declared.Scan.{Scan}
-use Rattle.virtq.specs.declared.Scan.TheVariants.{All, At}
+use Rattle.virtq.specs.declared.QueueIndex.{QueueIndex}
 
 -- a 64-bit address of its two halves
 abbrev pub address : (low high : ℕ) → ℕ
@@ -38,6 +37,6 @@ valid m g =
     false
 
 -- "The scan stops at the first invalid queue": of n queues from queue i on
-unfoldable pub scanned : Memory → (g : ℕ → Field → ℕ) → (i n : ℕ) → Scan
-scanned m g i zero = All
-scanned m g i (suc n) = pick (valid m (g i)) (scanned m g (i + 1) n) (At (record { 0 = i }))
+unfoldable pub scanned : Memory → (g : ℕ → Field → ℕ) → (i n : ℕ) → Option QueueIndex
+scanned m g i zero = None
+scanned m g i (suc n) = pick (valid m (g i)) (scanned m g (i + 1) n) (Some (record { 0 = i }))

@@ -4,20 +4,22 @@
 
 ghost use Rattle.std.specs.Prelude.{◌≡◌, ℕ, min};
 ghost use Rattle.virtq.specs.Index.{max_queues, vector_of};
-ghost use Rattle.virtq.specs.Fields.{field_numbered, field_of, fields_of, fit, fresh_queue, power_of_two, put, size_fit, updated};
+ghost use Rattle.virtq.specs.Fields.{field_numbered, field_of, field_with_number, fields_of, fit, fresh_queue, power_of_two, put, size_fit, updated};
 ghost use Rattle.virtq.specs.Valid.{address, inside, scanned, valid};
+
+use words::Refusal;
 
 /// The queues that a table has room for.
 pub const MAX_QUEUES: usize = 16;
 
 /// A queue's number: its place in the table. A guest's selector is one, whether or not such a queue is there.
 #[repr(C)]
-#[derive(Clone, Copy)]
+#[derive(Clone, Copy, PartialEq, Eq, Debug)]
 pub struct QueueIndex(pub u32);
 
 /// A vector's number. It is wider than a queue's, so that each queue's vector has one.
 #[repr(C)]
-#[derive(Clone, Copy)]
+#[derive(Clone, Copy, PartialEq, Eq, Debug)]
 pub struct VectorIndex(pub u64);
 
 impl QueueIndex {
@@ -25,12 +27,12 @@ impl QueueIndex {
     pub fn vector(self) -> VectorIndex
         ensures { result ≡ vector_of self }
     {
-        VectorIndex(self.0 as u64 + 1)
+        VectorIndex(u64::from(self.0) + 1)
     }
 }
 
 /// A queue's fields, one for each queue-field register.
-#[derive(Clone, Copy)]
+#[derive(Clone, Copy, PartialEq, Eq, Debug)]
 pub enum Field {
     Size,
     Ready,
@@ -42,25 +44,37 @@ pub enum Field {
     UsedHigh,
 }
 
+/// By its number, from 0 to 7. A number past them names no field of any queue: refusal 13.
+impl TryFrom<u32> for Field {
+    type Error = Refusal;
+
+    ghost try_from_gives = { λ n r. r ≡ field_with_number n };
+
+    fn try_from(n: u32) -> Result<Field, Refusal> {
+        match n {
+            0 => Ok(Field::Size),
+            1 => Ok(Field::Ready),
+            2 => Ok(Field::DescLow),
+            3 => Ok(Field::DescHigh),
+            4 => Ok(Field::AvailLow),
+            5 => Ok(Field::AvailHigh),
+            6 => Ok(Field::UsedLow),
+            7 => Ok(Field::UsedHigh),
+            _ => Err(Refusal::UnknownQueue),
+        }
+    }
+}
+
 /// The field of this number, from 0 to 7; past them the last.
 pub fn field_numbered(n: u32) -> Field
     ensures { result ≡ field_numbered n }
 {
-    match n {
-        0 => Field::Size,
-        1 => Field::Ready,
-        2 => Field::DescLow,
-        3 => Field::DescHigh,
-        4 => Field::AvailLow,
-        5 => Field::AvailHigh,
-        6 => Field::UsedLow,
-        _ => Field::UsedHigh,
-    }
+    Field::try_from(n).unwrap_or(Field::UsedHigh)
 }
 
 /// What a guest laid out of one queue. Its maximum size is configuration, and stands elsewhere.
 #[repr(C)]
-#[derive(Clone, Copy)]
+#[derive(Clone, Copy, PartialEq, Eq, Debug)]
 pub struct Queue {
     pub size: u16,
     pub ready: bool,
@@ -72,42 +86,19 @@ pub struct Queue {
     pub usedhigh: u32,
 }
 
-// The sixteen powers, each an arm of its own: a test on bits would be shorter here and longer to believe.
+// The sixteen powers, written out: a test on bits would be shorter here and longer to believe.
+#[rattlefmt::skip]
 fn power_of_two(v: u32) -> bool
     ensures { result ≡ power_of_two v }
 {
-    match v {
-        1 => true,
-        2 => true,
-        4 => true,
-        8 => true,
-        16 => true,
-        32 => true,
-        64 => true,
-        128 => true,
-        256 => true,
-        512 => true,
-        1024 => true,
-        2048 => true,
-        4096 => true,
-        8192 => true,
-        16384 => true,
-        32768 => true,
-        _ => false,
-    }
+    matches!(v, 1 | 2 | 4 | 8 | 16 | 32 | 64 | 128 | 256 | 512 | 1024 | 2048 | 4096 | 8192 | 16384 | 32768)
 }
 
 /// Whether a size is one that a queue of this maximum may have.
 pub fn size_fit(max: u32, size: u32) -> bool
     ensures { result ≡ size_fit max size }
 {
-    if size < 1 {
-        return false;
-    }
-    if max < size {
-        return false;
-    }
-    power_of_two(size)
+    1 <= size && size <= max && power_of_two(size)
 }
 
 /// Whether a value written to a field is fit for it.
@@ -115,14 +106,11 @@ pub fn fit(max: u16, f: Field, v: u32) -> bool
     ensures { result ≡ fit max f v }
 {
     match f {
-        Field::Size => size_fit(max as u32, v % 65536),
-        Field::Ready => true,
+        Field::Size => size_fit(u32::from(max), v % 65536),
         Field::DescLow => v % 16 == 0,
-        Field::DescHigh => true,
         Field::AvailLow => v % 2 == 0,
-        Field::AvailHigh => true,
         Field::UsedLow => v % 4 == 0,
-        Field::UsedHigh => true,
+        Field::Ready | Field::DescHigh | Field::AvailHigh | Field::UsedHigh => true,
     }
 }
 
@@ -148,13 +136,8 @@ impl Queue {
         ensures { result ≡ field_of self f }
     {
         match f {
-            Field::Size => self.size as u32,
-            Field::Ready => {
-                if self.ready {
-                    return 1;
-                }
-                0
-            }
+            Field::Size => u32::from(self.size),
+            Field::Ready => u32::from(self.ready),
             Field::DescLow => self.desclow,
             Field::DescHigh => self.deschigh,
             Field::AvailLow => self.availlow,
@@ -167,40 +150,33 @@ impl Queue {
     fn put(self, f: Field, v: u32) -> Self
         ensures { result ≡ put self f v }
     {
-        let mut q = self;
         match f {
-            Field::Size => {
-                q.size = (v % 65536) as u16;
-                q
-            }
-            Field::Ready => {
-                q.ready = v == 1;
-                q
-            }
-            Field::DescLow => {
-                q.desclow = v;
-                q
-            }
-            Field::DescHigh => {
-                q.deschigh = v;
-                q
-            }
-            Field::AvailLow => {
-                q.availlow = v;
-                q
-            }
-            Field::AvailHigh => {
-                q.availhigh = v;
-                q
-            }
-            Field::UsedLow => {
-                q.usedlow = v;
-                q
-            }
-            Field::UsedHigh => {
-                q.usedhigh = v;
-                q
-            }
+            Field::Size => Queue {
+                size: (v % 65536) as u16,
+                ..self
+            },
+            Field::Ready => Queue {
+                ready: v == 1,
+                ..self
+            },
+            Field::DescLow => Queue { desclow: v, ..self },
+            Field::DescHigh => Queue {
+                deschigh: v,
+                ..self
+            },
+            Field::AvailLow => Queue {
+                availlow: v,
+                ..self
+            },
+            Field::AvailHigh => Queue {
+                availhigh: v,
+                ..self
+            },
+            Field::UsedLow => Queue { usedlow: v, ..self },
+            Field::UsedHigh => Queue {
+                usedhigh: v,
+                ..self
+            },
         }
     }
 
@@ -208,33 +184,24 @@ impl Queue {
     pub fn update(self, max: u16, f: Field, v: u32) -> Self
         ensures { result ≡ updated max self f v }
     {
-        if fit(max, f, v) {
-            return self.put(f, v);
-        }
-        self
+        if fit(max, f, v) { self.put(f, v) } else { self }
     }
 
     /// Whether the queue may be started: ready, and each of its three areas inside the guest's memory.
     pub fn valid(self, memory: Memory) -> bool
         ensures { result ≡ valid memory (field_of self) }
     {
-        let n = self.size as u64;
-        if self.ready {
-            if memory.inside(address(self.desclow, self.deschigh), 16 * n) {
-                if memory.inside(address(self.availlow, self.availhigh), 6 + 2 * n) {
-                    return memory.inside(address(self.usedlow, self.usedhigh), 6 + 8 * n);
-                }
-                return false;
-            }
-            return false;
-        }
-        false
+        let n = u64::from(self.size);
+        self.ready
+            && memory.inside(address(self.desclow, self.deschigh), 16 * n)
+            && memory.inside(address(self.availlow, self.availhigh), 6 + 2 * n)
+            && memory.inside(address(self.usedlow, self.usedhigh), 6 + 8 * n)
     }
 }
 
 /// The guest's memory: one range from address 0.
 #[repr(C)]
-#[derive(Clone, Copy)]
+#[derive(Clone, Copy, PartialEq, Eq, Debug)]
 pub struct Memory {
     pub length: u64,
 }
@@ -244,10 +211,7 @@ impl Memory {
     pub fn inside(self, start: u64, n: u64) -> bool
         ensures { result ≡ inside self start n }
     {
-        if self.length < n {
-            return false;
-        }
-        start <= self.length - n
+        n <= self.length && start <= self.length - n
     }
 }
 
@@ -255,38 +219,19 @@ impl Memory {
 pub fn address(low: u32, high: u32) -> u64
     ensures { result ≡ address low high }
 {
-    (high as u64) * 0x1_0000_0000 + (low as u64)
-}
-
-/// What the scan finds.
-#[derive(Clone, Copy)]
-pub enum Scan {
-    All,
-    At(QueueIndex),
-}
-
-fn counted(n: usize) -> usize
-    ensures { result ≡ min n max_queues }
-{
-    if n < MAX_QUEUES {
-        return n;
-    }
-    MAX_QUEUES
+    u64::from(high) * 0x1_0000_0000 + u64::from(low)
 }
 
 /// The first of the table's first `n` queues that is not valid.
-pub fn first_invalid(queues: [Queue; MAX_QUEUES], n: usize, memory: Memory) -> Scan
+#[tactic(auto, using(crate::proofs::Scans::going_more, crate::proofs::Scans::going_stop, crate::proofs::Scans::going_last))]
+pub fn first_invalid(queues: [Queue; MAX_QUEUES], n: usize, memory: Memory) -> Option<QueueIndex>
     ensures { result ≡ scanned memory (fields_of queues) 0 (min n max_queues) }
 {
-    let count = counted(n);
-    let mut i: usize = 0;
-    let mut found = Scan::All;
-    while i < count {
-        let q = queues[i];
-        if q.valid(memory) {
-            i = i + 1;
-        } else {
-            found = Scan::At(QueueIndex(i as u32));
+    let count = n.min(MAX_QUEUES);
+    let mut found = None;
+    for i in 0..count {
+        if !queues[i].valid(memory) {
+            found = Some(QueueIndex(i as u32));
             break;
         }
     }

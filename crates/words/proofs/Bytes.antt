@@ -5,8 +5,12 @@ use Prim.Native.Nat.{ℕ, zero, suc, ◌+◌, ◌*◌, ◌/◌, ◌%◌, ◌^◌
 use native.Mathlib.Nat.{div-div-eq-div-mul, suc-add, pow-suc, one-le-pow}
 use native.Mathlib.Omega.{arith}
 use borrow.Author.Tests.{le-leb, lt-leb}
-use lib.ListN.{length, get_or}
-use lib.Seq.{sets}
+use native.Mathlib.Nat.{add-zero, add-suc}
+use lib.ListN.{length, get_or, take, drop}
+use lib.Seq.{sets-eq, get_or-take}
+use Rattle.std.proofs.Common.{zero-add}
+use Rattle.std.specs.Prelude.{slice_index}
+use Rattle.std.specs.Int.{bytes_low_first, byte_worth, sum_through}
 use lib.Arith.{mod-mul}
 use Rattle.words.specs.Bytes.{bytes_of, number_at, read_le, write_le}
 
@@ -36,19 +40,50 @@ read-written (suc w) v rest =
     ap (λ (n : ℕ). v % 256 + 256 * n) (further w (v % 256) (bytes_of w (v / 256) ++ rest) 0 ∙ read-written w (v / 256) rest)
     ∙ rw (pow-suc 256 w, mod-mul v {m = 256 ^ w} {c = 256} (one-le-pow w 256 (omega arith)) (omega arith)) (omega arith)
 
+-- the library's bytes of a number are these
+from-place : (k i v : ℕ) → bytes_low_first (suc i) k v ≡ bytes_from k v (256 ^ suc i)
+from-place zero i v = refl
+from-place (suc k) i v = ap (λ (r : List ℕ). v / 256 ^ suc i % 256 ∷ r) (from-place k (suc i) v ∙ ap (bytes_from k v) (pow-suc 256 (suc i)))
+
+pub library-bytes : (k v : ℕ) → bytes_low_first 0 (suc k) v ≡ bytes_of (suc k) v
+library-bytes k v = ap (λ (r : List ℕ). v % 256 ∷ r) (from-place k 0 v ∙ written_out k v 256)
+
+-- the highest byte apart
+top : (w : ℕ) (s : List ℕ) (i : ℕ) → number_at (suc w) s i ≡ number_at w s i + get_or s (i + w) 0 * 256 ^ w
+top zero s i = rw (add-zero i) (omega arith)
+top (suc w) s i =
+    let e : i + 1 + w ≡ suc (i + w) = omega arith in
+    ap (λ (n : ℕ). get_or s i 0 + 256 * n) (top w s (i + 1)) ∙ rw (pow-suc 256 w, add-suc i w, e) (omega arith)
+
+-- the library's number of some bytes is theirs
+pub library-number : (k : ℕ) (s : List ℕ) → sum_through (λ i. byte_worth i (slice_index s i)) k ≡ number_at (suc k) s 0
+library-number zero s = omega arith
+library-number (suc k) s = ap (λ (n : ℕ). n + get_or s (suc k) 0 * 256 ^ suc k) (library-number k s)
+    ∙ ap (λ (i : ℕ). number_at (suc k) s 0 + get_or s i 0 * 256 ^ suc k) (sym (zero-add (suc k)))
+    ∙ sym (top (suc k) s 0)
+
+-- and of the front of a longer slice
+pub front : (w n : ℕ) (s : List ℕ) (i : ℕ) → i + w ≤ n → number_at w (take n s) i ≡ number_at w s i
+front zero n s i h = refl
+front (suc w) n s i h = rw (get_or-take n s i 0 (omega arith), front w n s (i + 1) (omega arith)) refl
+
 -- what a slice that is long enough is written and read as, and one that is not
-pub overwritten : (w : ℕ) (s : List ℕ) (v : ℕ) → suc w ≤ length s → sets s 0 (v % 256 ∷ bytes_from w v 256) ≡ write_le (suc w) s v
+pub written : (k : ℕ) (s b : List ℕ) (v : ℕ) → suc k ≤ length s → b ≡ bytes_low_first 0 (suc k) v → b ++ drop (suc k) s ≡ write_le (suc k) s v
 unfolding write_le
-overwritten w s v h = simp (le-leb (suc w) (length s) h, written_out w v 256)
+written k s b v h e =
+    rw (le-leb (suc k) (length s) h)
+    (ap (λ (t : List ℕ). t ++ drop (suc k) s) (e ∙ library-bytes k v)
+    ∙ sym (sets-eq (bytes_of (suc k) v) s 0 (rw (length-bytes (suc k) v, zero-add (suc k)) h) ∙ rw (length-bytes (suc k) v, zero-add (suc k)) refl))
+
+pub read : (k n : ℕ) (s b : List ℕ) → suc k ≤ length s → b ≡ take (suc k) s → n ≡ sum_through (λ i. byte_worth i (slice_index b i)) k → n ≡ read_le (suc k) s
+unfolding read_le
+read k n s b h e q =
+    q ∙ library-number k b ∙ ap (λ (t : List ℕ). number_at (suc k) t 0) e ∙ front (suc k) (suc k) s 0 (omega arith) ∙ rw (le-leb (suc k) (length s) h) refl
 
 pub short_write : (w : ℕ) (s : List ℕ) (v : ℕ) → length s < w → s ≡ write_le w s v
 unfolding write_le
 short_write w s v h = simp (lt-leb w (length s) h)
 
-pub long-read : (w : ℕ) (s : List ℕ) → w ≤ length s → number_at w s 0 ≡ read_le w s
+pub short_read : (w : ℕ) (s : List ℕ) → length s < w → 0 ≡ read_le w s
 unfolding read_le
-long-read w s h = simp (le-leb w (length s) h)
-
-pub short-read : (w : ℕ) (s : List ℕ) → length s < w → 0 ≡ read_le w s
-unfolding read_le
-short-read w s h = simp (lt-leb w (length s) h)
+short_read w s h = simp (lt-leb w (length s) h)

@@ -1,6 +1,14 @@
-use Rattle.activation.proofs.Turns.{gone-played}
-use mathlib.Core.Path.{◌∙◌}
+use Rattle.activation.proofs.Turns.{all-accepted, all-starts, undone, not-started}
 use Rattle.activation.proofs.attempt.Goals as goal
 
-pub returns : goal.returns
-returns c = (record { played = gone-played _ _ _ _ _ c.register_ioevent-r.ensures c.finish.ensures.played; ok_value = c.finish.ensures.ok_value ∙ c.register_ioevent-r.ensures.ends })
+pub returns-in-Ok-clause-played : goal.returns-in-Ok-clause-played
+returns-in-Ok-clause-played c = all-accepted c.args.bell c.args.n (rw c.in-Ok.is at c.ask_all.ensures)
+
+pub returns-in-Ok-clause-ok_value : goal.returns-in-Ok-clause-ok_value
+returns-in-Ok-clause-ok_value c = all-starts (rw c.in-Ok.is at c.ask_all.ensures)
+
+pub returns-in-Err-clause-played : goal.returns-in-Err-clause-played
+returns-in-Err-clause-played c = undone c.args.bell c.args.n (rw c.in-Err.is at c.ask_all.ensures) c.undo.ensures
+
+pub returns-in-Err-clause-ok_value : goal.returns-in-Err-clause-ok_value
+returns-in-Err-clause-ok_value c = not-started (rw c.in-Err.is at c.ask_all.ensures)

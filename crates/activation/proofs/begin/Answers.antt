@@ -1,11 +1,12 @@
-use Rattle.activation.proofs.Turns.{began-none, began-one, began-both}
+use Rattle.std.proofs.Common.{[], ◌∷◌}
+use Rattle.std.proofs.lemmas.Result.{err_from_is_err_and}
+use Rattle.activation.specs.Requests.{Activate}
+use Rattle.activation.proofs.Turns.{ended, further}
 use Rattle.activation.proofs.begin.Goals as goal
 
-pub returns-then-t-eq0 : goal.returns-then-t-eq0
-returns-then-t-eq0 c = began-none _ _ _ _ _ (rw c.plain.ensures at c.emit-a.ensures) c.if-t-eq0.true
-
-pub returns-then-a-eq0 : goal.returns-then-a-eq0
-returns-then-a-eq0 c = began-one _ _ _ _ _ (rw c.plain.ensures at c.emit-a.ensures) _ _ (rw c.plain-2.ensures at c.emit-b.ensures) c.if-t-eq0.false c.if-a-eq0.true
+pub returns-in_err-ask : goal.returns-in_err-ask
+returns-in_err-ask c =
+    let p = err_from_is_err_and c.from_residual.result c.from_residual.ensures.1 in rw (p.1, p.2) (ended (Activate ∷ []) c.in_err-ask.ensures)
 
 pub returns : goal.returns
-returns c = began-both _ _ _ _ _ (rw c.plain.ensures at c.emit-a.ensures) _ _ (rw c.plain-2.ensures at c.emit-b.ensures) c.if-t-eq0.false c.if-a-eq0.false
+returns c = further c.in_ok-ask.ensures c.ask-2.ensures

@@ -1,17 +1,18 @@
-use Rattle.activation.proofs.Turns.{turned-door, turned-notify, turned-both, turned-refused, turned-only}
+use Rattle.std.proofs.Common.{[], ◌∷◌}
+use Rattle.std.proofs.lemmas.Result.{err_from_is_err_and}
+use Rattle.activation.specs.Requests.{Note}
+use Rattle.activation.proofs.Turns.{ended, further}
+use Rattle.activation.proofs.register_one.Goals.{then-bell+in_ok-ask, else-bell}
 use Rattle.activation.proofs.register_one.Goals as goal
 
-pub returns-then-t-eq0 : goal.returns-then-t-eq0
-returns-then-t-eq0 c = rw c.if-bell.true (turned-door _ _ _ _ _ _ (rw c.bell_on.ensures at c.emit-a.ensures) c.if-t-eq0.true)
-
-pub returns-then-a-eq0 : goal.returns-then-a-eq0
-returns-then-a-eq0 c = rw c.if-bell.true (turned-notify _ _ _ _ _ _ (rw c.bell_on.ensures at c.emit-a.ensures) _ _ (rw c.note_on.ensures at c.emit-b.ensures) c.if-t-eq0.false c.if-a-eq0.true)
-
-pub returns-then-bell : goal.returns-then-bell
-returns-then-bell c = rw c.if-bell.true (turned-both _ _ _ _ _ _ (rw c.bell_on.ensures at c.emit-a.ensures) _ _ (rw c.note_on.ensures at c.emit-b.ensures) c.if-t-eq0.false c.if-a-eq0.false)
-
-pub returns-then-t-eq0-2 : goal.returns-then-t-eq0-2
-returns-then-t-eq0-2 c = rw c.if-bell.false (turned-refused _ _ _ _ _ _ (rw c.note_on-2.ensures at c.emit-b-2.ensures) c.if-t-eq0-2.true)
+pub returns-in_err-ask : goal.returns-in_err-ask
+returns-in_err-ask c =
+    let p = err_from_is_err_and c.from_residual.result c.from_residual.ensures.1 in
+    rw (c.if-bell.true, p.1, p.2) (ended (Note c.args.q.0 ∷ []) c.in_err-ask.ensures)
 
 pub returns : goal.returns
-returns c = rw c.if-bell.false (turned-only _ _ _ _ _ _ (rw c.note_on-2.ensures at c.emit-b-2.ensures) c.if-t-eq0-2.false)
+returns c =
+    elim c.if-bell.branch [
+      | then-bell+in_ok-ask w ↦ rw w.if-bell.true (further w.in_ok-ask.ensures (rw w.tape-is at c.ask-2.ensures))
+      | else-bell w ↦ rw w.if-bell.false (rw w.tape-is at c.ask-2.ensures)
+    ]

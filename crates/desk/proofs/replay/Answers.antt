@@ -1,16 +1,37 @@
-use mathlib.Core.Path.{sym, ◌∙◌}
-use Rattle.trace.proofs.Judging.{accepted-good}
-use Rattle.desk.proofs.Whole.{none_told, bad-told}
+use mathlib.Core.Path.{ap}
+use Prim.Native.Nat.{◌+◌, ◌*◌, ◌≤◌}
+use borrow.Author.Rules.{rules}
+use lib.ListN.{length}
+use native.Mathlib.Omega.{arith}
+use Rattle.words.specs.Refusals.{refusal_number}
+use Rattle.words.proofs.Refusals.{some_number}
+use Rattle.trace.specs.Verdict.{count}
+use Rattle.desk.proofs.Whole.{replayed, bad-told, good-no-room, bad-no-room}
+use Rattle.desk.proofs.replay.Goals.{in_default-via-in-Ok+else-log-out, in_default-via-in-Err+else-out-ge128}
 use Rattle.desk.proofs.replay.Goals as goal
 
-pub returns-else-is_enough : goal.returns-else-is_enough
-returns-else-is_enough c = rw c.no_device.ensures (none_told _ _ _ (sym c.is_enough.ensures ∙ c.if-is_enough.false))
+pub returns-in-Ok : goal.returns-in-Ok
+returns-in-Ok c =
+    let ok = c.in-Ok.ensures.ok in
+    let log = c.in-Ok.log in
+    let good = rw ok.bytes at log.good in
+    let fits : 128 + 10304 * count c.args.s.now ≤ length c.args.out.now = omega (arith, log.counts, ap count ok.bytes) in
+    let text = rw (ok.bytes, ok.shows) at c.run_all-device.ensures.text in
+    rw (c.run_all-device.ensures.device, ok.bytes)
+    (replayed c.args.show c.args.s.now c.args.out.now c.new-page.ensures.front c.new-page.ensures.kept (search rules) good fits text)
 
-pub run_all-requires : goal.run_all-requires
-run_all-requires c = (accepted-good c.args.s.now (sym c.verdict-v.ensures ∙ c.if-v-eq0.true), sym c.is_enough.ensures ∙ c.if-is_enough.true)
+pub returns-in-Err : goal.returns-in-Err
+returns-in-Err c =
+    rw c.no_device.ensures
+    (bad-told c.args.show c.args.s.now c.args.out.now c.new-page-in-Err.ensures.front c.new-page-in-Err.ensures.kept (search rules) (refusal_number c.in-Err.e) c.in-Err.ensures.err (some_number c.in-Err.e) c.if-out-ge128.true (rw c.number.ensures at c.bad.ensures))
 
-pub returns-then-v-eq0 : goal.returns-then-v-eq0
-returns-then-v-eq0 c = c.run_all.ensures
-
-pub returns : goal.returns
-returns c = rw c.no_device-2.ensures (bad-told c.args.show c.args.s.now c.args.out.now c.verdict-v.result _ _ (sym c.is_enough.ensures ∙ c.if-is_enough.true) c.verdict-v.ensures c.if-v-eq0.false c.bad-p.ensures.emitted)
+pub returns-in_default : goal.returns-in_default
+returns-in_default c =
+    rw c.no_device-in_default.ensures
+    (elim c.in_default.branch [
+      | in_default-via-in-Ok+else-log-out w ↦
+          let ok = w.in-Ok.ensures.ok in
+          good-no-room c.args.show c.args.s.now c.args.out.now (rw ok.bytes at w.in-Ok.log.good) (omega (arith, w.in-Ok.log.counts, ap count ok.bytes, w.if-log-out.false))
+      | in_default-via-in-Err+else-out-ge128 w ↦
+          bad-no-room c.args.show c.args.s.now c.args.out.now (refusal_number w.in-Err.e) w.in-Err.ensures.err (some_number w.in-Err.e) w.if-out-ge128.false
+    ])

@@ -1,5 +1,5 @@
-use Rattle.words.proofs.Bits.{masked-bit}
+use Rattle.dragonball.proofs.Masks.{given-bit}
 use Rattle.dragonball.proofs.doorbell_enabled.Goals as goal
 
 pub returns-then-wildcard : goal.returns-then-wildcard
-returns-then-wildcard c = simp (c.if-given.true, c.if-wildcard.true) (masked-bit 2 c.args.features)
+returns-then-wildcard c = rw (c.if-wildcard.true, c.unwrap_or-word.ensures) (given-bit c.args.features)

@@ -1,14 +1,15 @@
-use Rattle.listing.proofs.Rows.{roomed, rising-first, rising-room, rising-more, rising-last}
+use Prim.Native.Nat.{ℕ}
+use native.Mathlib.Omega.{arith}
+use Rattle.text.specs.Details.{action_line}
+use Rattle.text.proofs.Pages.{roomed}
+use Rattle.listing.specs.Listing.{action_in}
+use Rattle.listing.proofs.Rows.{line-first, line-more}
 use Rattle.listing.proofs.put_actions.Goals as goal
 
-both : {A B C : Type 0} → (A → B → C) → A × B → C
-both f p = f p.0 p.1
-
 pub loop-i-init : goal.loop-i-init
-loop-i-init c = rising-first _ _ _ _
+loop-i-init c = line-first _ _
 
 pub loop-i-preserved : goal.loop-i-preserved
-loop-i-preserved c = rising-more c.loop-i.invariant c.loop-i-test.true (rw c.action_at-x.ensures at (roomed 128 c.action_line-p.ensures.emitted (rising-room c.loop-i.invariant c.loop-i-test.true c.requires.2))) c.action_line-p.ensures.upper_bound
-
-pub returns : goal.returns
-returns c = both (λ v w. record { emitted = v; upper_bound = w }) (rising-last c.loop-i.invariant c.loop-i-test.false)
+loop-i-preserved c =
+    line-more (λ (i : ℕ). action_line (action_in c.args.w.now i)) c.loop-i.invariant
+    (rw c.action_at.ensures at (roomed 128 c.action_line.ensures (omega arith)))

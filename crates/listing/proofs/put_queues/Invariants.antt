@@ -1,10 +1,7 @@
-use Prim.Native.Nat.{◌-◌}
-use Rattle.listing.specs.Listing.{queue_line}
-use Rattle.listing.proofs.Rows.{Rising}
+use Prim.Native.Nat.{◌*◌}
+use Rattle.text.specs.Page.{Prints}
+use Rattle.listing.specs.Listing.{queues_text}
 use Rattle.listing.proofs.put_queues.Given as goal
 
-abbrev pub invariant-loop-i : goal.invariant-loop-i
-invariant-loop-i l = Rising (queue_line l.queues) l.n l.initial.out l.at l.out l.p l.i
-
-abbrev pub decreases-loop-i : goal.decreases-loop-i
-decreases-loop-i l = l.n - l.i
+abbrev pub invariant-loop-index : goal.invariant-loop-index
+invariant-loop-index l = Prints (128 * l.index) l.initial.page (queues_text l.queues l.index) l.page

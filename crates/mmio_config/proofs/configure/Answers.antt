@@ -1,12 +1,10 @@
-use Rattle.mmio_config.proofs.Accepting.{small, configured-yes, configured-no}
-use mathlib.Core.Path.{sym, ◌∙◌}
+use Rattle.std.proofs.lemmas.Result.{err_from_is_err_and}
+use Rattle.mmio_config.specs.Fresh.{accepted, refused_for, configured}
+use Rattle.mmio_config.proofs.Accepting.{unless-err}
 use Rattle.mmio_config.proofs.configure.Goals as goal
 
-pub accept-config-requires : goal.accept-config-requires
-accept-config-requires c = small c.args.c (sym c.refusal_of-refusal.ensures ∙ c.if-refusal-eq0.true)
-
-pub returns-then-refusal-eq0 : goal.returns-then-refusal-eq0
-returns-then-refusal-eq0 c = configured-yes c.args.c _ (sym c.refusal_of-refusal.ensures ∙ c.if-refusal-eq0.true) c.accept-config.ensures
-
-pub returns : goal.returns
-returns c = configured-no c.args.c _ _ c.refusal_of-refusal.ensures c.if-refusal-eq0.false c.no_config-config.ensures
+pub returns-in_err-check : goal.returns-in_err-check
+unfolding configured
+returns-in_err-check c =
+    let p = err_from_is_err_and c.from_residual.result c.from_residual.ensures.1 in
+    rw (p.1, p.2) (unless-err (refused_for c.args.c) tt (accepted c.args.c) _ c.in_err-check.ensures)

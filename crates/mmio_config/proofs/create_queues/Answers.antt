@@ -1,16 +1,7 @@
-use Rattle.mmio_config.proofs.Loops.{filling-more, filling-last}
-use native.Mathlib.Omega.{arith}
-use borrow.Author.Rules.{rules}
+use Rattle.std.proofs.Common.{rules, ℕ}
+use Rattle.virtq.specs.Fields.{fresh_queue, no_queue}
+use Rattle.mmio_config.proofs.Chains.{each-fits}
 use Rattle.mmio_config.proofs.create_queues.Goals as goal
 
-pub loop-i-init : goal.loop-i-init
-loop-i-init c = record { is = rw c.fresh-none.ensures; within = omega arith }
-
-pub loop-i-smaller : goal.loop-i-smaller
-loop-i-smaller c = omega arith
-
-pub loop-i-preserved : goal.loop-i-preserved
-loop-i-preserved c = filling-more c.loop-i.invariant 0 _ (search rules) c.fresh.ensures
-
 pub returns : goal.returns
-returns c = filling-last c.loop-i.invariant (search rules) (search rules)
+returns c = each-fits (λ (i m : ℕ). fresh_queue m) c.args.sizes c.map.result 0 no_queue (search rules) (λ k b. let h = c.map.ensures.items.at k 0 no_queue (search rules) in search rules)

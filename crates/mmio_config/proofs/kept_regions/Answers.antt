@@ -1,18 +1,9 @@
-use Rattle.mmio_config.specs.Fresh.{no_region}
-use mathlib.Core.Path.{refl}
-use Rattle.mmio_config.proofs.Loops.{filling-more, filling-last}
-use native.Mathlib.Omega.{arith}
-use borrow.Author.Rules.{rules}
+use Rattle.std.proofs.Common.{rules, ℕ, get_or}
+use Rattle.mmio_config.specs.Fresh.{region_at, no_region}
+use Rattle.mmio_config.proofs.Chains.{each-fits, made-at}
 use Rattle.mmio_config.proofs.kept_regions.Goals as goal
 
-pub loop-i-init : goal.loop-i-init
-loop-i-init c = record { is = refl; within = omega arith }
-
-pub loop-i-smaller : goal.loop-i-smaller
-loop-i-smaller c = omega arith
-
-pub loop-i-preserved : goal.loop-i-preserved
-loop-i-preserved c = filling-more c.loop-i.invariant no_region _ (search rules) c.region_at.ensures
-
 pub returns : goal.returns
-returns c = filling-last c.loop-i.invariant (search rules) (search rules)
+returns c =
+    each-fits (region_at c.args.regions) c.args.table c.from_fn.result no_region no_region (search rules)
+    (λ k b. made-at _ _ (λ (i : ℕ). region_at c.args.regions i (get_or c.args.table i no_region)) (λ i y q s. search rules) c.from_fn.result 8 k no_region c.from_fn.ensures.items (search rules))

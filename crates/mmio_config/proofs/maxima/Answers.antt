@@ -1,17 +1,9 @@
-use mathlib.Core.Path.{refl}
-use Rattle.mmio_config.proofs.Loops.{filling-more, filling-last}
-use native.Mathlib.Omega.{arith}
-use borrow.Author.Rules.{rules}
+use Rattle.std.proofs.Common.{rules, ℕ, get_or}
+use Rattle.mmio_config.specs.Fresh.{maximum_at}
+use Rattle.mmio_config.proofs.Chains.{each-fits, made-at}
 use Rattle.mmio_config.proofs.maxima.Goals as goal
 
-pub loop-i-init : goal.loop-i-init
-loop-i-init c = record { is = refl; within = omega arith }
-
-pub loop-i-smaller : goal.loop-i-smaller
-loop-i-smaller c = omega arith
-
-pub loop-i-preserved : goal.loop-i-preserved
-loop-i-preserved c = filling-more c.loop-i.invariant 0 _ (search rules) c.maximum_at.ensures
-
 pub returns : goal.returns
-returns c = filling-last c.loop-i.invariant (search rules) (search rules)
+returns c =
+    each-fits (maximum_at c.args.c.dataqueues c.args.c.control) c.args.c.sizes c.from_fn.result 0 0 (search rules)
+    (λ k b. made-at _ _ (λ (i : ℕ). maximum_at c.args.c.dataqueues c.args.c.control i (get_or c.args.c.sizes i 0)) (λ i y q s. search rules) c.from_fn.result 16 k 0 c.from_fn.ensures.items (search rules))

@@ -1,17 +1,30 @@
-use mathlib.Core.Path.{ap, ◌∙◌}
-use mathlib.Core.List.{[]}
-use mathlib.Core.Bool.{Bool}
-use lib.ListN.{length}
-use Rattle.words.specs.Pick.{pick}
-use Rattle.words.proofs.Actions.{then, worded}
-use Rattle.text.specs.Lines.{record_line}
-use Rattle.text.proofs.Pieces.{room-left, reply-short}
-use Rattle.play.specs.Text.{told}
+use Prim.Native.Nat.{◌≤◌}
 use native.Mathlib.Omega.{arith}
+use borrow.Author.Rules.{rules}
+use Rattle.text.specs.Page.{PrintsIf}
+use Rattle.text.proofs.Pages.{untold, line-roomed}
+use Rattle.listing.specs.Listing.{words_text}
+use Rattle.play.proofs.Telling.{actions-told, queues-told, all_told}
+use Rattle.play.proofs.tell.Goals.{then-show, else-show}
 use Rattle.play.proofs.tell.Goals as goal
 
-pub returns : goal.returns
-unfolding told
-returns c = let a = c.args in
-    let line = worded c.line-a.ensures.emitted (ap (λ (t : Bool). pick t (record_line a.number a.status a.reply.now a.n) []) (reply-short (length a.reply.now) (length a.out.now) a.at c.requires.0 ∙ room-left 64 (length a.out.now) a.at (omega (arith, c.requires.4)))) in
-    (record { emitted = then (then line c.actions_if-b.ensures.emitted) c.queues_if.ensures.emitted; upper_bound = omega (arith, c.line-a.ensures.upper_bound, c.actions_if-b.ensures.upper_bound, c.queues_if.ensures.upper_bound) })
+pub returns-then-show-2 : goal.returns-then-show-2
+returns-then-show-2 c =
+    let line = line-roomed _ c.line.ensures c.requires.0 (omega arith) in
+    let acts : PrintsIf c.args.show.actions 8192 c.line.new.self (words_text c.args.w.now c.args.a.count) c.if-show.page =
+    elim c.if-show.branch [
+      | then-show w ↦ rw w.page-is (actions-told _ w.if-show.true _ _ w.actions.ensures c.requires.1 c.requires.2 (omega arith))
+      | else-show w ↦ rw w.page-is (untold _ _ _ w.if-show.false)
+    ] in
+    let few : c.queues_in-count.result ≤ 16 = search rules in
+    all_told c.args.show _ _ _ _ _ _ _ line acts (rw c.queues_in-count.ensures at (queues-told _ c.if-show-2.true _ c.queues.ensures few (omega arith)))
+
+pub returns-else-show-2 : goal.returns-else-show-2
+returns-else-show-2 c =
+    let line = line-roomed _ c.line.ensures c.requires.0 (omega arith) in
+    let acts : PrintsIf c.args.show.actions 8192 c.line.new.self (words_text c.args.w.now c.args.a.count) c.if-show.page =
+    elim c.if-show.branch [
+      | then-show w ↦ rw w.page-is (actions-told _ w.if-show.true _ _ w.actions.ensures c.requires.1 c.requires.2 (omega arith))
+      | else-show w ↦ rw w.page-is (untold _ _ _ w.if-show.false)
+    ] in
+    all_told c.args.show _ _ _ _ _ _ _ line acts (untold _ _ _ c.if-show-2.false)

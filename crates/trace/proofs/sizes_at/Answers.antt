@@ -1,19 +1,13 @@
-use mathlib.Core.Path.{refl}
-use native.Mathlib.Omega.{arith}
-use Rattle.mmio_config.proofs.Loops.{filling-more, filling-last}
+use Rattle.std.specs.Prelude.{replicate}
+use Rattle.std.proofs.Common.{rules, ℕ, ◌+◌, ◌*◌}
 use Rattle.trace.specs.Block.{sizes_at}
-use borrow.Author.Rules.{rules}
+use Rattle.trace.specs.Form.{form}
+use Rattle.trace.specs.Numbers.{half_at}
+use Rattle.mmio_config.proofs.Chains.{each-fits, made-at}
 use Rattle.trace.proofs.sizes_at.Goals as goal
-
-pub loop-i-init : goal.loop-i-init
-loop-i-init c = record { is = refl; within = omega arith }
-
-pub loop-i-smaller : goal.loop-i-smaller
-loop-i-smaller c = omega arith
-
-pub loop-i-preserved : goal.loop-i-preserved
-loop-i-preserved c = filling-more c.loop-i.invariant 0 _ (search rules) c.half_at-size.ensures
 
 pub returns : goal.returns
 unfolding sizes_at
-returns c = filling-last c.loop-i.invariant (search rules) refl
+returns c =
+    each-fits (λ (i x : ℕ). half_at c.args.s.now (88 + 2 * i)) (replicate form.sizes 0) c.from_fn.result 0 0 (search rules)
+    (λ k b. made-at _ _ (λ (i : ℕ). half_at c.args.s.now (88 + 2 * i)) (λ i y q s. search rules) c.from_fn.result 16 k 0 c.from_fn.ensures.items b)

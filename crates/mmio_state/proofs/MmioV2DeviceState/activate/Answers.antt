@@ -1,16 +1,13 @@
+use Rattle.std.proofs.Common.{rules, ◌≡◌}
 use Rattle.mmio_state.specs.Activation.{activating}
-use mathlib.Core.Path.{◌∙◌}
-use Rattle.mmio_state.proofs.Operating.{no_room, with-room, already-active}
+use Rattle.mmio_state.specs.Effect.{written}
+use Rattle.mmio_state.proofs.Operating.{has-room, with-room, start-effect}
 use Rattle.mmio_state.proofs.MmioV2DeviceState.activate.Goals as goal
 
-pub returns-then-actions-lt-ACTION_WORDS : goal.returns-then-actions-lt-ACTION_WORDS
-returns-then-actions-lt-ACTION_WORDS c = let e = no_room _ c.args.self (activating c.args.self c.args.k) c.if-actions-lt-ACTION_WORDS.true in (record { value = c.refuse.ensures ∙ e.0; actions_after = e.1 })
-
-pub returns-then-self : goal.returns-then-self
-returns-then-self c = record { value = (already-active _ c.args.self c.args.k c.if-actions-lt-ACTION_WORDS.false c.if-self.true).0; actions_after = (already-active _ c.args.self c.args.k c.if-actions-lt-ACTION_WORDS.false c.if-self.true).1 }
-
-pub attempt-requires : goal.attempt-requires
-attempt-requires c = (record { in_bounds = c.if-actions-lt-ACTION_WORDS.false; active_value = c.if-self.false })
-
 pub returns : goal.returns
-returns c = record { value = (with-room _ _ c.args.self (activating c.args.self c.args.k) _ c.if-actions-lt-ACTION_WORDS.false c.attempt.ensures.value c.attempt.ensures.actions_after).0; actions_after = (with-room _ _ c.args.self (activating c.args.self c.args.k) _ c.if-actions-lt-ACTION_WORDS.false c.attempt.ensures.value c.attempt.ensures.actions_after).1 }
+returns c =
+    let h = has-room _ _ c.in_ok-enough.ensures in
+    let e = start-effect c.args.self c.args.k _ h _ c.new-tape.ensures.begun _ c.queues_in-n.ensures _ _ c.if-self.false _ c.check_queues_valid-valid.ensures c.start-ok.ensures.played c.start-ok.ensures.ok_value in
+    let p = with-room c.args.actions.now c.start-ok.new.tape.words.now (activating c.args.self c.args.k) (record { state = c.settle.result; ok = c.start-ok.result; count = c.start-ok.new.tape.count }) h (rw c.settle.ensures e.0) e.1 in
+    let q : c.start-ok.new.tape.words.now ≡ written c.args.actions.now (activating c.args.self c.args.k) = p.1 in
+    record { value = p.0; actions_after = search (rules, q) }

@@ -1,8 +1,18 @@
-use Rattle.mmio_state.proofs.Operating.{made-yes, made-no}
+use mathlib.Core.Path.{◌∙◌}
+use Rattle.std.proofs.lemmas.Result.{err_from_is_err_and}
+use Rattle.mmio_config.specs.Fresh.{accepted, configured, refused_for}
+use Rattle.mmio_config.proofs.Accepting.{unless-err, unless-ok}
+use Rattle.mmio_state.specs.Fresh.{fresh_state, made}
 use Rattle.mmio_state.proofs.MmioV2DeviceState.new.Goals as goal
 
-pub returns-then-g-eq0 : goal.returns-then-g-eq0
-returns-then-g-eq0 c = made-yes c.args.c _ _ c.configure-g.ensures c.if-g-eq0.true (rw c.fresh_hot.ensures at c.begun-s.ensures)
+pub returns-in_err-config : goal.returns-in_err-config
+unfolding made configured
+returns-in_err-config c =
+    let p = err_from_is_err_and c.from_residual.result c.from_residual.ensures.1 in
+    rw (p.1, p.2) (unless-err (refused_for c.args.c) (accepted c.args.c) (fresh_state c.args.c) _ c.in_err-config.ensures)
 
 pub returns : goal.returns
-returns c = made-no c.args.c _ _ c.configure-g.ensures c.if-g-eq0.false (rw c.no_hot.ensures at c.begun-none.ensures)
+unfolding made configured
+returns c =
+    unless-ok (refused_for c.args.c) (accepted c.args.c) _ (fresh_state c.args.c) _ c.in_ok-config.ensures
+    (λ e. c.begun.ensures ∙ rw (c.fresh_hot.ensures, e))

@@ -1,10 +1,13 @@
+use Rattle.std.proofs.Common.{rules, ◌≡◌}
 use Rattle.mmio_state.specs.Activation.{resetting}
-use mathlib.Core.Path.{◌∙◌}
-use Rattle.mmio_state.proofs.Operating.{no_room, with-room}
+use Rattle.mmio_state.specs.Effect.{written}
+use Rattle.mmio_state.proofs.Operating.{has-room, with-room, stop-effect}
 use Rattle.mmio_state.proofs.MmioV2DeviceState.reset.Goals as goal
 
-pub returns-then-actions-lt-ACTION_WORDS : goal.returns-then-actions-lt-ACTION_WORDS
-returns-then-actions-lt-ACTION_WORDS c = let e = no_room _ c.args.self (resetting c.args.self c.args.k) c.if-actions-lt-ACTION_WORDS.true in (record { value = c.refuse.ensures ∙ e.0; actions_after = e.1 })
-
 pub returns : goal.returns
-returns c = record { value = (with-room _ _ c.args.self (resetting c.args.self c.args.k) _ c.if-actions-lt-ACTION_WORDS.false c.shut.ensures.value c.shut.ensures.actions_after).0; actions_after = (with-room _ _ c.args.self (resetting c.args.self c.args.k) _ c.if-actions-lt-ACTION_WORDS.false c.shut.ensures.value c.shut.ensures.actions_after).1 }
+returns c =
+    let h = has-room _ _ c.in_ok-enough.ensures in
+    let e = stop-effect c.args.self c.args.k _ h _ c.new-tape.ensures.begun _ c.queues_in-n.ensures _ _ c.stop-ok.ensures.played c.stop-ok.ensures.ok_value in
+    let p = with-room c.args.actions.now c.stop-ok.new.tape.words.now (resetting c.args.self c.args.k) (record { state = c.reset_to.result; ok = c.stop-ok.result; count = c.stop-ok.new.tape.count }) h (rw c.reset_to.ensures e.0) e.1 in
+    let q : c.stop-ok.new.tape.words.now ≡ written c.args.actions.now (resetting c.args.self c.args.k) = p.1 in
+    record { value = p.0; actions_after = search (rules, q) }

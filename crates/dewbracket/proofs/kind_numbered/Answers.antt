@@ -1,8 +1,0 @@
-use borrow.Author.Tests.{ne_eqb}
-use Rattle.dewbracket.proofs.kind_numbered.Goals as goal
-
-pub returns-in-0 : goal.returns-in-0
-returns-in-0 c = rw c.in-0.is
-
-pub returns-in_default : goal.returns-in_default
-returns-in_default c = simp (ne_eqb _ _ c.in_default.in_default-own.rest.1)

@@ -1,4 +1,0 @@
-use Rattle.mmio_access.proofs.get_shm_base_high.Goals as goal
-
-pub returns : goal.returns
-returns c = rw (c.high_word.ensures, c.shm_base-base.ensures, c.get_shm_field-f.ensures) at c.region_word.ensures

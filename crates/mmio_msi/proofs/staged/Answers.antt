@@ -1,7 +1,0 @@
-use Rattle.mmio_msi.proofs.staged.Goals as goal
-
-pub returns-then-s : goal.returns-then-s
-returns-then-s c = rw c.if-s.true
-
-pub returns : goal.returns
-returns c = rw c.if-s.false

@@ -1,7 +1,0 @@
-use Rattle.mmio_state.proofs.settle.Goals as goal
-
-pub returns-then-ok : goal.returns-then-ok
-returns-then-ok c = rw (c.if-ok.true, c.start_state-u.ensures)
-
-pub returns : goal.returns
-returns c = rw (c.if-ok.false, c.wipe_state-u.ensures)
