@@ -1,10 +1,11 @@
 -- Any two results that a promise of this floor allows are equal, and so are the lent words at the end.
-use Rattle.std.proofs.Common.{◌≡◌, sym, ◌∙◌}
-use Rattle.tape.specs.Play.{sheet}
+use Rattle.std.proofs.Common.{◌≡◌, List, sym, ◌∙◌}
+use Rattle.words.specs.declared.Action.{Action}
+use Rattle.tape.specs.Play.{sheet, Played}
+use Rattle.tape.specs.declared.Tape.{Tape}
 use Rattle.tape.proofs.bell_entry.Reads as bell-entry-promise
 use Rattle.tape.proofs.note_entry.Reads as note-entry-promise
-use Rattle.tape.proofs.Entry.register.Reads as register-promise
-use Rattle.tape.proofs.Entry.unregister.Reads as unregister-promise
+use Rattle.tape.proofs.ActionFromCall.from.Reads as call-promise
 use Rattle.tape.proofs.Tape.new.Reads as new-promise
 use Rattle.tape.proofs.Tape.emit.Reads as emit-promise
 
@@ -14,15 +15,22 @@ bell-entry-determined κs a r r' s s' p q = p ∙ sym q
 pub note-entry-determined : (κs : _) (a : _) (r r' : _) (s s' : _) → note-entry-promise.Post κs a r s → note-entry-promise.Post κs a r' s' → r ≡ r'
 note-entry-determined κs a r r' s s' p q = p ∙ sym q
 
-pub register-determined : (κs : _) (a : _) (r r' : _) (s s' : _) → register-promise.Post κs a r s → register-promise.Post κs a r' s' → r ≡ r'
-register-determined κs a r r' s s' p q = p ∙ sym q
+pub call-determined : (κs : _) (a : _) (r r' : _) (s s' : _) → call-promise.Post κs a r s → call-promise.Post κs a r' s' → r ≡ r'
+call-determined κs a r r' s s' p q = p ∙ sym q
 
-pub unregister-determined : (κs : _) (a : _) (r r' : _) (s s' : _) → unregister-promise.Post κs a r s → unregister-promise.Post κs a r' s' → r ≡ r'
-unregister-determined κs a r r' s s' p q = p ∙ sym q
+-- two tapes are the same: what is on them, the window's base, and the words that they hold
+pub record Same (t t' : Tape) : Type 0 where
+  pub on-it : sheet t ≡ sheet t'
+  pub for-window : t.base ≡ t'.base
+  pub over-words : t.words.ghost_name ≡ t'.words.ghost_name
 
--- a tape is determined by what is on it, the window's base, and the name of the words that it holds
-pub emit-determined : (κs : _) (a : _) (r r' : _) (s s' : _) → emit-promise.Post κs a r s → emit-promise.Post κs a r' s' → sheet s.0.now ≡ sheet s'.0.now
-emit-determined κs a r r' s s' p q = p.is ∙ sym q.is
+pub played-same : {t t' t'' : Tape} {xs : List Action} → Played t xs t' → Played t xs t'' → Same t' t''
+played-same p q =
+    record { on-it = p.is ∙ sym q.is; for-window = p.base ∙ sym q.base; over-words = p.same ∙ sym q.same }
 
-pub new-determined : (κs : _) (a : _) (r r' : _) (s s' : _) → new-promise.Post κs a r s → new-promise.Post κs a r' s' → (sheet r ≡ sheet r') × (r.base ≡ r'.base)
-new-determined κs a r r' s s' p q = (p.1.is ∙ sym q.1.is, p.1.base ∙ sym q.1.base)
+pub emit-determined : (κs : _) (a : _) (r r' : _) (s s' : _) → emit-promise.Post κs a r s → emit-promise.Post κs a r' s' → Same s.0.now s'.0.now
+emit-determined κs a r r' s s' p q = played-same p q
+
+pub new-determined : (κs : _) (a : _) (r r' : _) (s s' : _) → new-promise.Post κs a r s → new-promise.Post κs a r' s' → Same r r'
+new-determined κs a r r' s s' p q =
+    record { on-it = p.1.is ∙ sym q.1.is; for-window = p.1.base ∙ sym q.1.base; over-words = p.1.same ∙ sym q.1.same }

@@ -10,9 +10,6 @@ use Rattle.tape.proofs.Playing.{then, unplayed}
 pub record Left (t₀ : Tape) (whole : List Action) (t : Tape) (rest : List Action) : Type 0 where
   pub comes : (t' : Tape) → Played t rest t' → Played t₀ whole t'
 
-pub left_first : (t : Tape) (xs : List Action) → Left t xs t xs
-left_first t xs = record { comes = λ t' p. p }
-
 module _ {t₀ : Tape} {whole : List Action} {t : Tape} where
   pub left_last : {rest : List Action} → Left t₀ whole t rest → rest ≡ [] → Played t₀ whole t
   left_last g e = g.comes t (rw e (unplayed t))

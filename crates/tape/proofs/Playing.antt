@@ -1,7 +1,6 @@
 -- Records played one after another: what is left to play from here comes to the whole.
-use Rattle.std.proofs.Common.{◌≡◌, ℕ, ◌+◌, ◌*◌, ◌≤◌, Bool, true, false, List, [], ◌∷◌, ◌++◌, length, subst, sym, refl, ap, ◌∙◌, add-zero, zero-add, arith, le-leb, leb-true}
+use Rattle.std.proofs.Common.{◌≡◌, ℕ, ◌+◌, ◌*◌, ◌≤◌, true, false, List, [], ◌∷◌, ◌++◌, length, subst, sym, refl, ap, ◌∙◌, add-zero, zero-add, arith, le-leb, leb-true}
 use lib.Seq.{sets, length-sets}
-use Rattle.words.specs.Pick.{pick}
 use Rattle.words.specs.Actions.{Emitted, fitting, words_of, words_of_all}
 use Rattle.words.proofs.Actions.{fits, length-words, sets-join}
 use Rattle.words.specs.declared.Action.{Action}
@@ -39,22 +38,6 @@ module _ (b : ℕ) (s : Sheet) (x : Action) where
 pub play-join : (b : ℕ) (s : Sheet) (xs ys : List Action) → play b s (xs ++ ys) ≡ play b (play b s xs) ys
 play-join b s [] ys = refl
 play-join b s (x ∷ xs) ys = play-join b (one b s x) xs ys
-
--- the lent words stay as many as they were
-one-long : (b : ℕ) (s : Sheet) (x : Action) → length (one b s x).words ≡ length s.words
-unfolding one
-one-long b s x = go (room_for s.count (length s.words))
-  where
-    go : (r : Bool) → length (pick r (sets s.words (5 * s.count) (words_of x)) s.words) ≡ length s.words
-    go true = length-sets s.words (5 * s.count) (words_of x)
-    go false = refl
-
-play-long : (b : ℕ) (s : Sheet) (xs : List Action) → length (play b s xs).words ≡ length s.words
-play-long b s [] = refl
-play-long b s (x ∷ xs) = play-long b (one b s x) xs ∙ one-long b s x
-
-pub same-long : (b : ℕ) (s s' : Sheet) (xs ys : List Action) → play b s xs ≡ play b s' ys → length s.words ≡ length s'.words
-same-long b s s' xs ys e = sym (play-long b s xs) ∙ ap (λ (r : Sheet). length r.words) e ∙ play-long b s' ys
 
 -- the table is the fold, room or not
 pub play-held : (b : ℕ) (s : Sheet) (xs : List Action) → (play b s xs).held ≡ held_after b s.held s.left xs

@@ -5,9 +5,10 @@
 
 ghost use Rattle.std.specs.Prelude.{◌≡◌, ℕ, ◌+◌, ◌*◌, ◌≤◌, [], ◌∷◌, length};
 ghost use Rattle.tape.specs.Actions.{act, answered};
-ghost use Rattle.tape.specs.Held.{bell, bell_address, equal, held_one, held_queue, left_after, note, note_address, register, stands, unregister};
+ghost use Rattle.tape.specs.Calls.{action_of};
+ghost use Rattle.tape.specs.Held.{bell, equal, held_one, held_queue, left_after, note, stands};
 
-use virtq::{MAX_QUEUES, QueueIndex};
+use virtq::{MAX_QUEUES, QueueIndex, VectorIndex};
 use words::Action;
 
 /// The kinds of action.
@@ -81,33 +82,63 @@ pub fn note_entry(base: u64, q: QueueIndex) -> Entry
     }
 }
 
-impl Entry {
-    fn action(self, kind: u64) -> Action
-        ensures { result ≡ act kind self.queue self.address self.width self.value }
-    {
-        Action {
-            kind,
-            a: self.queue,
-            b: self.address,
-            c: self.width,
-            d: self.value,
+/// What the device asks of its host, or tells it: a kind of action with its operands.
+#[derive(Clone, Copy, PartialEq, Eq, Debug)]
+pub enum Call {
+    Register(Entry),
+    Unregister(Entry),
+    EnableInterrupts,
+    Activate,
+    ResetDevice,
+    ResetInterrupts,
+    /// MSI, or legacy interrupts.
+    Mode(bool),
+    Update(VectorIndex),
+    Mask(VectorIndex),
+    Unmask(VectorIndex),
+    /// A page, and the features acknowledged in it.
+    AckedFeatures(u32, u32),
+    /// An offset in the device's own configuration, and a length.
+    ReadConfig(u64, usize),
+    WriteConfig(u64, usize),
+}
+
+fn act(kind: u64, a: u64, b: u64, c: u64, d: u64) -> Action
+    ensures { result ≡ act kind a b c d }
+{
+    Action { kind, a, b, c, d }
+}
+
+/// Its record: the kind's number, and the operands in 01's order.
+impl From<Call> for Action {
+    ghost from_gives = { λ call x. x ≡ action_of call };
+
+    fn from(call: Call) -> Action {
+        match call {
+            Call::Register(e) => act(ACTION_REGISTER, e.queue, e.address, e.width, e.value),
+            Call::Unregister(e) => act(ACTION_UNREGISTER, e.queue, e.address, e.width, e.value),
+            Call::EnableInterrupts => act(ACTION_ENABLE_INTERRUPTS, 0, 0, 0, 0),
+            Call::Activate => act(ACTION_ACTIVATE, 0, 0, 0, 0),
+            Call::ResetDevice => act(ACTION_RESET_DEVICE, 0, 0, 0, 0),
+            Call::ResetInterrupts => act(ACTION_RESET_INTERRUPTS, 0, 0, 0, 0),
+            Call::Mode(msi) => act(ACTION_MODE, u64::from(msi), 0, 0, 0),
+            Call::Update(v) => act(ACTION_UPDATE, v.0, 0, 0, 0),
+            Call::Mask(v) => act(ACTION_MASK, v.0, 0, 0, 0),
+            Call::Unmask(v) => act(ACTION_UNMASK, v.0, 0, 0, 0),
+            Call::AckedFeatures(page, v) => act(
+                ACTION_ACKED_FEATURES,
+                u64::from(page),
+                u64::from(v),
+                0,
+                0,
+            ),
+            Call::ReadConfig(offset, n) => act(ACTION_READ_CONFIG, offset, n as u64, 0, 0),
+            Call::WriteConfig(offset, n) => act(ACTION_WRITE_CONFIG, offset, n as u64, 0, 0),
         }
     }
+}
 
-    /// The request to register it.
-    pub fn register(self) -> Action
-        ensures { result ≡ register self }
-    {
-        self.action(ACTION_REGISTER)
-    }
-
-    /// The word to unregister it.
-    pub fn unregister(self) -> Action
-        ensures { result ≡ unregister self }
-    {
-        self.action(ACTION_UNREGISTER)
-    }
-
+impl Entry {
     // Whether a record speaks of this very entry.
     fn equal(self, x: Action) -> bool
         ensures { result ≡ equal self x }
@@ -145,16 +176,14 @@ fn held_queue(h: Held, base: u64, left: u32, x: Action, q: QueueIndex) -> Held
 }
 
 // Only the entries of the record's own queue can equal it, so only that place is written.
-fn held_one(held: [Held; MAX_QUEUES], base: u64, left: u32, x: Action) -> [Held; MAX_QUEUES]
+fn held_one(mut held: [Held; MAX_QUEUES], base: u64, left: u32, x: Action) -> [Held; MAX_QUEUES]
     ensures { result ≡ held_one base left x held }
 {
-    if x.a >= 16 {
-        return held;
+    if x.a < MAX_QUEUES as u64 {
+        let i = x.a as usize;
+        held[i] = held_queue(held[i], base, left, x, QueueIndex(i as u32));
     }
-    let i = x.a as usize;
-    let mut out = held;
-    out[i] = held_queue(held[i], base, left, x, QueueIndex(i as u32));
-    out
+    held
 }
 
 fn is_answered(kind: u64) -> bool
