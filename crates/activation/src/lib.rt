@@ -6,51 +6,39 @@
 
 #![tactic(auto)]
 
-ghost use Rattle.std.specs.Prelude.{◌≡◌, Bool, true, false, ℕ, ◌+◌, ◌<◌, [], ◌∷◌};
+ghost use Rattle.std.specs.Prelude.{◌≡◌, true, false, ℕ, ◌+◌, [], ◌∷◌};
 ghost use Rattle.words.specs.Pick.{pick};
 ghost use Rattle.words.specs.Lists.{up};
 ghost use Rattle.words.specs.declared.Action.{Action};
-ghost use Rattle.tape.specs.Actions.{act};
 ghost use Rattle.tape.specs.Held.{entry, unregister};
 ghost use Rattle.tape.specs.Play.{Played};
-ghost use Rattle.activation.specs.Requests.{Bell, Note, begins, bells_off, notes_off, lasts, record_of, requests, reverts, start_records, starts, stop_records, stops, turn, wipes, asks};
+ghost use Rattle.activation.specs.Requests.{begins, bells_off, notes_off, lasts, record_of, requests, reverts, start_records, starts, stop_records, stops, turn, wipes, asks};
 ghost use Rattle.activation.specs.Ties.{Asked, request_of, turns, undoing};
 
-use tape::{
-    ACTION_ACTIVATE, ACTION_ENABLE_INTERRUPTS, ACTION_RESET_DEVICE, ACTION_RESET_INTERRUPTS, Entry,
-    Tape,
-};
+use tape::{Call, Entry, Tape};
 use virtq::QueueIndex;
 use words::Action;
 
 /// What an activation asks, one after the other. The one that is refused says what is to be undone.
 #[derive(Clone, Copy, PartialEq, Eq, Debug)]
-pub enum Request {
+enum Request {
     Doorbell(QueueIndex),
     Notify(QueueIndex),
     Interrupts,
     Device,
 }
 
-fn plain(kind: u64) -> Action
-    ensures { result ≡ act kind 0 0 0 0 }
-{
-    Action {
-        kind,
-        ..Action::default()
-    }
-}
-
 impl Request {
     fn record(self, base: u64) -> Action
         ensures { result ≡ record_of base (request_of self) }
     {
-        match self {
-            Request::Doorbell(q) => tape::bell_entry(base, q).register(),
-            Request::Notify(q) => tape::note_entry(base, q).register(),
-            Request::Interrupts => plain(ACTION_ENABLE_INTERRUPTS),
-            Request::Device => plain(ACTION_ACTIVATE),
-        }
+        let call = match self {
+            Request::Doorbell(q) => Call::Register(tape::bell_entry(base, q)),
+            Request::Notify(q) => Call::Register(tape::note_entry(base, q)),
+            Request::Interrupts => Call::EnableInterrupts,
+            Request::Device => Call::Activate,
+        };
+        call.into()
     }
 }
 
@@ -113,14 +101,22 @@ fn unregister_ioevent(tape: &mut Tape, n: u32)
     ensures { Played tape.old (notes_off tape.old.base n) tape.new }
 {
     let base = tape.base;
-    tell_each(tape, n, |q| tape::note_entry(base, q).unregister());
+    tell_each(
+        tape,
+        n,
+        |q| Call::Unregister(tape::note_entry(base, q)).into(),
+    );
 }
 
 fn unregister_ioevent_doorbell(tape: &mut Tape, n: u32)
     ensures { Played tape.old (bells_off tape.old.base n) tape.new }
 {
     let base = tape.base;
-    tell_each(tape, n, |q| tape::bell_entry(base, q).unregister());
+    tell_each(
+        tape,
+        n,
+        |q| Call::Unregister(tape::bell_entry(base, q)).into(),
+    );
 }
 
 fn datamatch(wildcard: bool, idx: u32) -> u64
@@ -132,13 +128,13 @@ fn datamatch(wildcard: bool, idx: u32) -> u64
 fn revert_one(idx: u32, address: u64, value: u64) -> Action
     ensures { result ≡ unregister (entry idx address 8 value) }
 {
-    Entry {
+    let entry = Entry {
         queue: u64::from(idx),
         address,
         width: 8,
         value,
-    }
-    .unregister()
+    };
+    Call::Unregister(entry).into()
 }
 
 // The undo that misses: width 8, from num - 1 down to 0.
@@ -154,7 +150,7 @@ fn revert_ioevent(tape: &mut Tape, num: u32, address: u64, wildcard: bool)
 fn wipe(tape: &mut Tape, n: u32, full: bool)
     ensures { Played tape.old (wipes tape.old.base n full) tape.new }
 {
-    tape.emit(plain(ACTION_RESET_INTERRUPTS));
+    tape.emit(Call::ResetInterrupts.into());
     if full {
         unregister_ioevent(tape, n);
     }
@@ -218,7 +214,7 @@ pub fn stop(tape: &mut Tape, n: u32, full: bool, active: bool) -> bool
 {
     let accepted = !active || tape.left != 0;
     if active {
-        tape.emit(plain(ACTION_RESET_DEVICE));
+        tape.emit(Call::ResetDevice.into());
     }
     if accepted {
         wipe(tape, n, full);
