@@ -2,7 +2,7 @@
 use mathlib.Core.Bool.{Bool, true, false}
 use mathlib.Core.Path.{◌≡◌, refl, sym, ap, ◌∙◌}
 use Prim.Native.Nat.{ℕ, zero, suc, ◌+◌, ◌-◌, ◌≤◌, ◌<◌}
-use native.Mathlib.Nat.{sub-zero, add-zero, not-suc-le-zero, le_of_suc-le-suc}
+use native.Mathlib.Nat.{add-zero, not-suc-le-zero, le_of_suc-le-suc}
 use native.Mathlib.Omega.{arith}
 use borrow.Author.Tests.{le-leb, lt-leb, leb-true, leb-false}
 use lib.Dec.{leb}
@@ -21,9 +21,6 @@ no-sum m start n h = go (leb start (m - n)) refl
     go true e = e ∙ sym (le-leb (start + n) m (omega (arith, leb-true start (m - n) e)))
     go false e = e ∙ sym (lt-leb (start + n) m (omega (arith, leb-false start (m - n) e)))
 
-pub too_long : (m start n : ℕ) → m < n → false ≡ leb (start + n) m
-too_long m start n h = sym (lt-leb (start + n) m (omega arith))
-
 -- the loop's invariant: what is found from queue i on is what is found in all, and none was found so far
 pub record Going (m : Memory) (g : ℕ → Field → ℕ) (n i : ℕ) (found : Option QueueIndex) : Type 0 where
   pub whole : scanned m g i (n - i) ≡ scanned m g 0 n
@@ -31,9 +28,6 @@ pub record Going (m : Memory) (g : ℕ → Field → ℕ) (n i : ℕ) (found : O
   pub none : found ≡ None
 
 module _ (m : Memory) (g : ℕ → Field → ℕ) (n : ℕ) where
-  pub going_first : Going m g n 0 None
-  going_first = record { whole = rw (sub-zero n); within = omega arith; none = refl }
-
   here : (i : ℕ) (b : Bool) → i < n → valid m (g i) ≡ b
       → scanned m g i (n - i) ≡ pick b (scanned m g (i + 1) (n - (i + 1))) (Some (record { 0 = i }))
   unfolding scanned

@@ -74,7 +74,7 @@ pub fn field_numbered(n: u32) -> Field
 
 /// What a guest laid out of one queue. Its maximum size is configuration, and stands elsewhere.
 #[repr(C)]
-#[derive(Clone, Copy, PartialEq, Eq, Debug)]
+#[derive(Clone, Copy, PartialEq, Eq, Debug, Default)]
 pub struct Queue {
     pub size: u16,
     pub ready: bool,
@@ -121,13 +121,7 @@ impl Queue {
     {
         Queue {
             size: max,
-            ready: false,
-            desclow: 0,
-            deschigh: 0,
-            availlow: 0,
-            availhigh: 0,
-            usedlow: 0,
-            usedhigh: 0,
+            ..Queue::default()
         }
     }
 
@@ -147,37 +141,20 @@ impl Queue {
         }
     }
 
-    fn put(self, f: Field, v: u32) -> Self
+    fn put(mut self, f: Field, v: u32) -> Self
         ensures { result ≡ put self f v }
     {
         match f {
-            Field::Size => Queue {
-                size: (v % 65536) as u16,
-                ..self
-            },
-            Field::Ready => Queue {
-                ready: v == 1,
-                ..self
-            },
-            Field::DescLow => Queue { desclow: v, ..self },
-            Field::DescHigh => Queue {
-                deschigh: v,
-                ..self
-            },
-            Field::AvailLow => Queue {
-                availlow: v,
-                ..self
-            },
-            Field::AvailHigh => Queue {
-                availhigh: v,
-                ..self
-            },
-            Field::UsedLow => Queue { usedlow: v, ..self },
-            Field::UsedHigh => Queue {
-                usedhigh: v,
-                ..self
-            },
+            Field::Size => self.size = (v % 65536) as u16,
+            Field::Ready => self.ready = v == 1,
+            Field::DescLow => self.desclow = v,
+            Field::DescHigh => self.deschigh = v,
+            Field::AvailLow => self.availlow = v,
+            Field::AvailHigh => self.availhigh = v,
+            Field::UsedLow => self.usedlow = v,
+            Field::UsedHigh => self.usedhigh = v,
         }
+        self
     }
 
     /// The queue after a write that is let through: it sets its field if the value is fit, and else nothing.
@@ -201,7 +178,7 @@ impl Queue {
 
 /// The guest's memory: one range from address 0.
 #[repr(C)]
-#[derive(Clone, Copy, PartialEq, Eq, Debug)]
+#[derive(Clone, Copy, PartialEq, Eq, Debug, Default)]
 pub struct Memory {
     pub length: u64,
 }
