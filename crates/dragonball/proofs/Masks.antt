@@ -11,8 +11,6 @@ use Rattle.dragonball.specs.declared.MsiCommand.{MsiCommand}
 use Rattle.dragonball.specs.Messages.{command_of}
 
 -- a product of two 32-bit numbers and a third fit 64 bits
-pub product_small : {a b : ℕ} → a < 2 ^ 32 → b < 2 ^ 32 → a * b ≤ (2 ^ 32 - 1) * (2 ^ 32 - 1)
-product_small {a} {b} h k = mul-le-mul (le_ones 32 h) (le_ones 32 k)
 
 -- `x & !4` of a 32-bit number clears bit 2 and leaves the others
 pub without-bit-2 : (x : ℕ) → x < 2 ^ 32 → bit_and x (2 ^ 32 - 1 - 4) ≡ without 2 x

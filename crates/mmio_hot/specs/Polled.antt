@@ -9,59 +9,15 @@ abbrev pub failed : (status : ℕ) → ℕ
 failed v = pick (bit 7 v) v (v + 128)
 
 abbrev pub with_status : Hot → (status : ℕ) → Hot
-with_status h v =
-    record {
-      status = v;
-      interrupts = h.interrupts;
-      vendor = h.vendor;
-      page = h.page;
-      ackpage = h.ackpage;
-      queue = h.queue;
-      region = h.region;
-      doorbell = h.doorbell;
-      msi = h.msi;
-    }
+with_status h v = record h { status = v }
 
 abbrev pub with_mode : Hot → (msi : Bool) → Hot
-with_mode h m =
-    record {
-      status = h.status;
-      interrupts = h.interrupts;
-      vendor = h.vendor;
-      page = h.page;
-      ackpage = h.ackpage;
-      queue = h.queue;
-      region = h.region;
-      doorbell = h.doorbell;
-      msi = m;
-    }
+with_mode h m = record h { msi = m }
 
 -- the four selectors: 014, 024, 030, 0ac
 abbrev pub selecting : Hot → (page ackpage queue region : ℕ) → Hot
-selecting h p a q r =
-    record {
-      status = h.status;
-      interrupts = h.interrupts;
-      vendor = h.vendor;
-      page = p;
-      ackpage = a;
-      queue = q;
-      region = r;
-      doorbell = h.doorbell;
-      msi = h.msi;
-    }
+selecting h p a q r = record h { page = p; ackpage = a; queue = q; region = r }
 
 -- "selectors 014, 024, 030 zero; MSI off; doorbell gone .. Region selector and interrupt bits stay"
 abbrev pub wiped_hot : Hot → Hot
-wiped_hot h =
-    record {
-      status = h.status;
-      interrupts = h.interrupts;
-      vendor = h.vendor;
-      page = 0;
-      ackpage = 0;
-      queue = 0;
-      region = h.region;
-      doorbell = false;
-      msi = false;
-    }
+wiped_hot h = record h { page = 0; ackpage = 0; queue = 0; doorbell = false; msi = false }

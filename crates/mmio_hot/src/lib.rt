@@ -7,12 +7,25 @@
 
 ghost use Rattle.std.specs.Prelude.{◌≡◌};
 ghost use Rattle.mmio_hot.specs.Commands.{command_at, csr_of};
-ghost use Rattle.mmio_hot.specs.Polled.{failed, selecting, with_status, wiped_hot};
+ghost use Rattle.mmio_hot.specs.Polled.{failed, with_status, wiped_hot};
 
 use dragonball::{
     MMIO_MSI_CMD_CODE_INT_MASK, MMIO_MSI_CMD_CODE_INT_UNMASK, MMIO_MSI_CMD_CODE_UPDATE,
+    MMIO_MSI_CSR_ENABLED,
 };
 use virtq::VectorIndex;
+
+// The bits of the status (virtio 1.2, 2.1). The Rust takes them from its crate's root.
+
+pub const DEVICE_ACKNOWLEDGE: u32 = 0x1;
+
+pub const DEVICE_DRIVER: u32 = 0x2;
+
+pub const DEVICE_DRIVER_OK: u32 = 0x4;
+
+pub const DEVICE_FEATURES_OK: u32 = 0x8;
+
+pub const DEVICE_FAILED: u32 = 0x80;
 
 /// What the registers that a guest polls read and change: `driver_status`, `interrupt_status`, `device_vendor`,
 /// `features_select`, `acked_features_select`, `queue_select`, `shm_region_id`, whether a doorbell stands and whether
@@ -53,11 +66,7 @@ pub enum Command {
 fn with_failed(status: u32) -> u32
     ensures { result ≡ failed status }
 {
-    if status / 128 % 2 == 1 {
-        status
-    } else {
-        status + 128
-    }
+    status | DEVICE_FAILED
 }
 
 impl Hot {
@@ -69,34 +78,6 @@ impl Hot {
             status: with_failed(self.status),
             ..self
         }
-    }
-
-    /// The page of features that 010 reads.
-    pub fn set_features_select(self, v: u32) -> Self
-        ensures { result ≡ selecting self v self.ackpage self.queue self.region }
-    {
-        Hot { page: v, ..self }
-    }
-
-    /// The page of features that 020 acknowledges.
-    pub fn set_acked_features_select(self, v: u32) -> Self
-        ensures { result ≡ selecting self self.page v self.queue self.region }
-    {
-        Hot { ackpage: v, ..self }
-    }
-
-    /// The queue that the queue registers speak of.
-    pub fn set_queue_select(self, v: u32) -> Self
-        ensures { result ≡ selecting self self.page self.ackpage v self.region }
-    {
-        Hot { queue: v, ..self }
-    }
-
-    /// The region that the region registers speak of.
-    pub fn set_shm_region_id(self, v: u32) -> Self
-        ensures { result ≡ selecting self self.page self.ackpage self.queue v }
-    {
-        Hot { region: v, ..self }
     }
 
     /// After a state reset.
@@ -120,8 +101,8 @@ impl Hot {
 pub fn csr_of(status: u32, v: u16, msi: bool) -> Csr
     ensures { result ≡ csr_of status v msi }
 {
-    let on = v / 32768 % 2 == 1;
-    if status / 4 % 2 == 1 {
+    let on = v & MMIO_MSI_CSR_ENABLED != 0;
+    if status & DEVICE_DRIVER_OK != 0 {
         Csr::Locked
     } else if on == msi {
         Csr::Stay
@@ -134,10 +115,9 @@ pub fn csr_of(status: u32, v: u16, msi: bool) -> Csr
 pub fn command_at(v: u16) -> Command
     ensures { result ≡ command_at v }
 {
-    let m = dragonball::msi_command(v);
-    let code = m.code;
-    let vector = VectorIndex(m.argument as u64);
-    match code {
+    let command = dragonball::msi_command(v);
+    let vector = VectorIndex(u64::from(command.argument));
+    match command.code {
         MMIO_MSI_CMD_CODE_UPDATE => Command::Update(vector),
         MMIO_MSI_CMD_CODE_INT_MASK => Command::Mask(vector),
         MMIO_MSI_CMD_CODE_INT_UNMASK => Command::Unmask(vector),
