@@ -1,11 +1,12 @@
 -- What an accepted configuration is known to be.
-use mathlib.Core.Bool.{Bool, true, false, not, ◌||◌, ◌&&◌, true≢false}
+use mathlib.Core.Bool.{Bool, true, false, not, ◌||◌, true≢false}
 use mathlib.Core.Path.{◌≡◌, refl, sym, ap}
 use Prim.Native.Nat.{ℕ, ◌-◌, ◌^◌, ◌≤◌}
 use native.Mathlib.Omega.{arith}
 use borrow.Author.Tests.{ltb-false, leb-true, eqb-true}
 use lib.Dec.{eqb, ltb, leb}
 use lib.ListN.{get_or}
+use Rattle.std.proofs.lemmas.Bool.{and_parts}
 use Rattle.std.specs.Prelude.{Option, Some, None, Result, Ok, Err}
 use Rattle.words.specs.declared.Refusal.{Refusal}
 use Rattle.words.specs.declared.Refusal.TheVariants.{WindowBase, QueueCount, QueueSize, VectorCount, RegionCount}
@@ -73,15 +74,11 @@ small c h =
     let p : Passed c = passed c h in
     (control (eqb c.control 0) refl p.fitting, omega (arith, ltb-false max_queues (queue_count c) p.few))
   where
-    second : (a b : Bool) → a && b ≡ true → b ≡ true
-    second true b e = e
-    second false b e = absurd (true≢false (sym e))
-
     control : (z : Bool) → eqb c.control 0 ≡ z → maxima_fit c ≡ true → c.control ≤ 32768
     control true e f = omega (arith, eqb-true c.control 0 e)
     control false e f =
         let g : pick (has_control c) (maximum_fit c.control) true ≡ true =
-        second (below c.dataqueues (λ (i : ℕ). maximum_fit (get_or c.sizes i 0))) (pick (has_control c) (maximum_fit c.control) true) f
+        (and_parts (below c.dataqueues (λ (i : ℕ). maximum_fit (get_or c.sizes i 0))) (pick (has_control c) (maximum_fit c.control) true) f).1
         in
         size-at-most 32768 c.control (rw e at g)
 

@@ -1,7 +1,7 @@
 -- What the chains of a fresh state leave: a test at each of the first elements, and lists made place by place.
 use mathlib.Core.Bool.{Bool, true, false, ◌&&◌}
-use mathlib.Core.Path.{◌≡◌, refl, ap, ap₂, subst, ◌∙◌}
-use mathlib.Core.List.{List, [], ◌∷◌}
+use mathlib.Core.Path.{◌≡◌, refl, sym, ap, subst, ◌∙◌}
+use mathlib.Core.List.{List}
 use Prim.Native.Nat.{ℕ, zero, suc, ◌+◌, ◌<◌, ◌≤◌}
 use native.Mathlib.Omega.{arith}
 use borrow.Author.Tests.{eqb-true, eqb-false}
@@ -10,9 +10,11 @@ use lib.Dec.{eqb}
 use lib.ListN.{length, get_or, take}
 use Rattle.std.specs.Array.{IsFromFnResult, IsFromFnResultFrom}
 use Rattle.std.specs.List.{list_all}
+use Rattle.std.proofs.lemmas.List.{ext_get_or}
 use Rattle.std.proofs.lemmas.List.Folds.{list_all_more}
 use Rattle.words.specs.Pick.{pick, below}
 use Rattle.words.specs.Lists.{each}
+use Rattle.words.proofs.Lists.{length-each, get_or-each}
 
 -- a test at each of the first elements
 pub list_all-take : {X : Type 0} (p : X → Bool) (xs : List X) (n : ℕ) (d : X) → n ≤ length xs → list_all p (take n xs) ≡ below n (λ (i : ℕ). p (get_or xs i d))
@@ -31,11 +33,9 @@ list_all-take p xs (suc n) d h =
 -- a list is each of another if it is at every place
 pub each-fits : {X Y : Type 0} (f : ℕ → X → Y) (xs : List X) (ys : List Y) (d : X) (e : Y) → length ys ≡ length xs
     → ((k : ℕ) → k < length xs → get_or ys k e ≡ f k (get_or xs k d)) → ys ≡ each f xs
-each-fits f [] [] d e l h = refl
-each-fits f [] (y ∷ ys) d e l h = absurd (omega arith)
-each-fits f (x ∷ xs) [] d e l h = absurd (omega arith)
-each-fits f (x ∷ xs) (y ∷ ys) d e l h =
-    ap₂ (λ a b. a ∷ b) (h 0 (omega arith)) (each-fits (λ (j : ℕ). f (suc j)) xs ys d e (omega arith) (λ k b. h (suc k) (omega arith)))
+each-fits f xs ys d e l h =
+    ext_get_or e ys (each f xs) (l ∙ sym (length-each f xs))
+    (λ k b. let w : k < length xs = omega arith in h k w ∙ sym (get_or-each f xs k d e w))
 
 -- what `from_fn` makes of a closure that changes nothing
 module _ {F Y : Type 0} (g : Mut F (ℕ × Unit {0}) Y) (f : F) (h : ℕ → Y) (same : (i : ℕ) (y : Y) (q : F) → Called g f (i, tt) y q → (q ≡ f) × (y ≡ h i)) where

@@ -5,7 +5,7 @@
 
 #![tactic(auto)]
 
-ghost use Rattle.std.specs.Prelude.{◌≡◌, true, not, ℕ, ◌≤◌, eqb, get_or};
+ghost use Rattle.std.specs.Prelude.{◌≡◌, ℕ, ◌≤◌};
 ghost use Rattle.std.specs.List.{list_all};
 ghost use Rattle.words.specs.Lists.{each};
 ghost use Rattle.virtq.specs.Index.{max_queues};

@@ -112,13 +112,13 @@ vector_at v n = ltb v (min n max_vectors)
 
 -- "low, high and data stored"; the mask stays
 abbrev pub stored : Msi → Vector → Vector
-stored m v = record { low = m.address_low; high = m.address_high; message = m.«data»; masked = v.masked }
+stored m v = record v { low = m.address_low; high = m.address_high; message = m.«data» }
 
 abbrev pub stored_at : List Vector → (v : ℕ) → Msi → List Vector
 stored_at vs v m = set vs v (stored m (get_or vs v no_vector))
 
 abbrev pub remasked : Vector → Bool → Vector
-remasked v m = record { low = v.low; high = v.high; message = v.message; masked = m }
+remasked v m = record v { masked = m }
 
 abbrev pub masked_at : List Vector → (v : ℕ) → Bool → List Vector
 masked_at vs v m = set vs v (remasked (get_or vs v no_vector) m)

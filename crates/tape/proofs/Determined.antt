@@ -1,11 +1,13 @@
 -- Any two results that a promise of this floor allows are equal, and so are the lent words at the end.
-use Rattle.std.proofs.Common.{◌≡◌, List, sym, ◌∙◌}
+use Rattle.std.proofs.Common.{◌≡◌, List, refl, sym, ◌∙◌}
 use Rattle.words.specs.declared.Action.{Action}
+use Rattle.tape.specs.Held.{no_held}
 use Rattle.tape.specs.Play.{sheet, Played}
 use Rattle.tape.specs.declared.Tape.{Tape}
 use Rattle.tape.proofs.bell_entry.Reads as bell-entry-promise
 use Rattle.tape.proofs.note_entry.Reads as note-entry-promise
 use Rattle.tape.proofs.ActionFromCall.from.Reads as call-promise
+use Rattle.tape.proofs.HeldDefault.default.Reads as held-default-promise
 use Rattle.tape.proofs.Tape.new.Reads as new-promise
 use Rattle.tape.proofs.Tape.emit.Reads as emit-promise
 
@@ -34,3 +36,7 @@ emit-determined κs a r r' s s' p q = played-same p q
 pub new-determined : (κs : _) (a : _) (r r' : _) (s s' : _) → new-promise.Post κs a r s → new-promise.Post κs a r' s' → Same r r'
 new-determined κs a r r' s s' p q =
     record { on-it = p.1.is ∙ sym q.1.is; for-window = p.1.base ∙ sym q.1.base; over-words = p.1.same ∙ sym q.1.same }
+
+-- the derived default is the queue of which nothing is held
+pub held-default : (κs : _) (a : _) (r : _) (s : _) → held-default-promise.Post κs a r s → r ≡ no_held
+held-default κs a r s p = rw (p.0, p.1) refl
