@@ -7,17 +7,13 @@ abbrev pub no_message : Msi
 no_message = record { index_select = 0; address_low = 0; address_high = 0; «data» = 0 }
 
 abbrev pub with_index_select : Msi → (v : ℕ) → Msi
-with_index_select m v =
-    record { index_select = v; address_low = m.address_low; address_high = m.address_high; «data» = m.«data» }
+with_index_select m v = record m { index_select = v }
 
 abbrev pub with_address_low : Msi → (v : ℕ) → Msi
-with_address_low m v =
-    record { index_select = m.index_select; address_low = v; address_high = m.address_high; «data» = m.«data» }
+with_address_low m v = record m { address_low = v }
 
 abbrev pub with_address_high : Msi → (v : ℕ) → Msi
-with_address_high m v =
-    record { index_select = m.index_select; address_low = m.address_low; address_high = v; «data» = m.«data» }
+with_address_high m v = record m { address_high = v }
 
 abbrev pub with_data : Msi → (v : ℕ) → Msi
-with_data m v =
-    record { index_select = m.index_select; address_low = m.address_low; address_high = m.address_high; «data» = v }
+with_data m v = record m { «data» = v }
