@@ -10,7 +10,7 @@
 #![tactic(auto)]
 
 ghost use Rattle.std.specs.Prelude.{◌≡◌};
-ghost use Rattle.msi.specs.Stage.{with_address_high, with_address_low, with_data, with_index_select};
+ghost use Rattle.msi.specs.Stage.{no_message, with_address_high, with_address_low, with_data, with_index_select};
 
 /// MSI interrupts. The default is a message of zeros.
 #[derive(Clone, Copy, PartialEq, Eq, Debug, Default)]
