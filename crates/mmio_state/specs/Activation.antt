@@ -35,16 +35,7 @@ all_flags = record { active = true; registered = true; enabled = true }
 
 -- started: active, the full set registered, interrupts enabled
 abbrev pub started : State → List Held → State
-started s hs =
-    record {
-      hot = s.hot;
-      config = s.config;
-      flags = all_flags;
-      stage = s.stage;
-      queues = s.queues;
-      held = hs;
-      vectors = s.vectors;
-    }
+started s hs = record s { flags = all_flags; held = hs }
 
 abbrev pub settled : State → (ok : Bool) → List Held → State
 settled s ok hs = pick ok (started s hs) (wiped s hs)

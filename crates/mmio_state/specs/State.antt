@@ -16,52 +16,16 @@ abbrev pub queues_in : State → ℕ
 queues_in s = counted s.config.count
 
 abbrev pub with_hot : State → Hot → State
-with_hot s h =
-    record {
-      hot = h;
-      config = s.config;
-      flags = s.flags;
-      stage = s.stage;
-      queues = s.queues;
-      held = s.held;
-      vectors = s.vectors;
-    }
+with_hot s h = record s { hot = h }
 
 abbrev pub with_stage : State → Hot → Msi → State
-with_stage s h m =
-    record {
-      hot = h;
-      config = s.config;
-      flags = s.flags;
-      stage = m;
-      queues = s.queues;
-      held = s.held;
-      vectors = s.vectors;
-    }
+with_stage s h m = record s { hot = h; stage = m }
 
 abbrev pub with_queues : State → List Queue → State
-with_queues s qs =
-    record {
-      hot = s.hot;
-      config = s.config;
-      flags = s.flags;
-      stage = s.stage;
-      queues = qs;
-      held = s.held;
-      vectors = s.vectors;
-    }
+with_queues s qs = record s { queues = qs }
 
 abbrev pub with_vectors : State → Msi → List Vector → State
-with_vectors s m vs =
-    record {
-      hot = s.hot;
-      config = s.config;
-      flags = s.flags;
-      stage = m;
-      queues = s.queues;
-      held = s.held;
-      vectors = vs;
-    }
+with_vectors s m vs = record s { stage = m; vectors = vs }
 
 -- FAILED set
 abbrev pub failed_state : State → State

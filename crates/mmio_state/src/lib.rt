@@ -23,6 +23,19 @@ use tape::{ACTION_ACKED_FEATURES, Held, Tape};
 use virtq::{Field, MAX_QUEUES, Queue, QueueIndex};
 use words::{Action, Refusal};
 
+// The bits of the device status.
+pub const DEVICE_INIT: u32 = 0x00;
+
+pub const DEVICE_ACKNOWLEDGE: u32 = 0x01;
+
+pub const DEVICE_DRIVER: u32 = 0x02;
+
+pub const DEVICE_DRIVER_OK: u32 = 0x04;
+
+pub const DEVICE_FEATURES_OK: u32 = 0x08;
+
+pub const DEVICE_FAILED: u32 = 0x80;
+
 /// The words that every operation must be lent: five for each of the most records it can ask.
 pub const ACTION_WORDS: usize = 320;
 
@@ -186,7 +199,7 @@ impl MmioV2DeviceState {
     {
         enough(actions)?;
         if self.flags.active {
-            return ask_nothing(self, true, actions);
+            return Ok(quiet_done(self, true));
         }
         let n = mmio_tables::queues_in(self.config.count);
         let valid = self.check_queues_valid();
@@ -260,8 +273,7 @@ impl MmioV2DeviceState {
     {
         let q = QueueIndex(self.hot.queue);
         let config = self.config;
-        let queues = mmio_tables::update_at(self.queues, config.sizes, q, config.count, f, v);
-        self.queues = queues;
+        self.queues = mmio_tables::update_at(self.queues, config.sizes, q, config.count, f, v);
         self
     }
 
