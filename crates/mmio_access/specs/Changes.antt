@@ -18,18 +18,7 @@ selected s p a q r = with_hot s (selecting s.hot p a q r)
 
 -- other interrupt bits
 abbrev pub with_interrupts : Hot → (bits : ℕ) → Hot
-with_interrupts h v =
-    record {
-      status = h.status;
-      interrupts = v;
-      vendor = h.vendor;
-      page = h.page;
-      ackpage = h.ackpage;
-      queue = h.queue;
-      region = h.region;
-      doorbell = h.doorbell;
-      msi = h.msi;
-    }
+with_interrupts h v = record h { interrupts = v }
 
 -- "064 clears the given interrupt bits"
 abbrev pub cleared : (bits v : ℕ) → ℕ

@@ -6,15 +6,22 @@
 
 #![tactic(auto)]
 
-ghost use Rattle.std.specs.Prelude.{◌≡◌, length};
+ghost use Rattle.std.specs.Prelude.{◌≡◌, MatchOption, bit_and, bit_or, eqb, length};
+ghost use Rattle.mmio_state.specs.Fields.{selected_region};
 ghost use Rattle.tape.specs.Actions.{act};
 ghost use Rattle.mmio_state.specs.Effect.{done, written};
 ghost use Rattle.mmio_access.specs.Gates.{acks_open, config_open, fields_open};
 ghost use Rattle.mmio_access.specs.Shown.{csr_word, device_features, doorbell_word, shm_base_high, shm_base_low, shm_len_high, shm_len_low, tweaked};
 ghost use Rattle.mmio_access.specs.Changes.{acked, acknowledged, config_asked, config_read, config_written, field_updated, raised, selected};
 
-use dragonball::{DoorBell, MMIO_MSI_CSR_SUPPORTED};
-use mmio_state::{Done, MmioV2DeviceState};
+use dragonball::{
+    DRAGONBALL_FEATURE_INTR_USED, DRAGONBALL_FEATURE_MSI_INTR, DRAGONBALL_MMIO_DOORBELL_OFFSET,
+    DRAGONBALL_MMIO_DOORBELL_SCALE, DoorBell, MMIO_MSI_CSR_SUPPORTED,
+};
+use mmio_config::Region;
+use mmio_state::{
+    DEVICE_DRIVER, DEVICE_DRIVER_OK, DEVICE_FAILED, DEVICE_FEATURES_OK, Done, MmioV2DeviceState,
+};
 use tape::{ACTION_READ_CONFIG, ACTION_WRITE_CONFIG};
 use virtq::Field;
 use words::{Action, Refusal};
@@ -22,27 +29,37 @@ use words::{Action, Refusal};
 /// An interrupt bit: the device used a buffer.
 pub const VIRTIO_INTR_VRING: u32 = 0x01;
 
-// ---- what the status lets through: check_driver_status in the Rust
+// ---- what the status lets through
+
+// Every bit of the one mask set, every bit of the other clear.
+fn check_driver_status(status: u32, set: u32, clear: u32) -> bool
+    ensures { result ≡ eqb (bit_and status (bit_or set clear)) set }
+{
+    status & (set | clear) == set
+}
 
 /// FEATURES_OK set, DRIVER_OK and FAILED clear.
+#[tactic(auto, using(crate::proofs::Masks::fields_by_mask))]
 pub fn queue_fields_open(status: u32) -> bool
     ensures { result ≡ fields_open status }
 {
-    status / 8 % 2 == 1 && status / 4 % 2 != 1 && status / 128 % 2 != 1
+    check_driver_status(status, DEVICE_FEATURES_OK, DEVICE_DRIVER_OK | DEVICE_FAILED)
 }
 
 /// DRIVER set, FEATURES_OK and FAILED clear.
+#[tactic(auto, using(crate::proofs::Masks::acks_by_mask))]
 pub fn acked_features_open(status: u32) -> bool
     ensures { result ≡ acks_open status }
 {
-    status / 2 % 2 == 1 && status / 8 % 2 != 1 && status / 128 % 2 != 1
+    check_driver_status(status, DEVICE_DRIVER, DEVICE_FEATURES_OK | DEVICE_FAILED)
 }
 
 /// DRIVER set, FAILED clear.
+#[tactic(auto, using(crate::proofs::Masks::config_by_mask))]
 pub fn config_open(status: u32) -> bool
     ensures { result ≡ config_open status }
 {
-    status / 2 % 2 == 1 && status / 128 % 2 != 1
+    check_driver_status(status, DEVICE_DRIVER, DEVICE_FAILED)
 }
 
 // ---- what registers show
@@ -54,7 +71,7 @@ pub const NO_REGION: u32 = 0xffff_ffff;
 pub fn tweak_intr_flags(vendor: u32, flags: u32) -> u32
     ensures { result ≡ tweaked vendor flags }
 {
-    if vendor % 2 == 1 {
+    if vendor & DRAGONBALL_FEATURE_INTR_USED != 0 {
         flags | VIRTIO_INTR_VRING
     } else {
         flags
@@ -77,34 +94,45 @@ pub fn device_features(s: MmioV2DeviceState) -> u32
 pub fn doorbell_word() -> u32
     ensures { result ≡ doorbell_word }
 {
-    DoorBell::new(0x1000, 0x4).register_data()
+    DoorBell::new(
+        DRAGONBALL_MMIO_DOORBELL_OFFSET as u32,
+        DRAGONBALL_MMIO_DOORBELL_SCALE as u32,
+    )
+    .register_data()
 }
 
 /// The control register as 0c0 shows it.
+#[tactic(auto, using(crate::proofs::Masks::msi_by_mask))]
 pub fn msi_csr(vendor: u32) -> u16
     ensures { result ≡ csr_word vendor }
 {
-    if vendor / 2 % 2 == 1 {
+    if vendor & DRAGONBALL_FEATURE_MSI_INTR != 0 {
         MMIO_MSI_CSR_SUPPORTED
     } else {
         0
     }
 }
 
+// A word of the selected region, or that there is none.
+fn region_word<F: FnOnce(Region) -> u32>(s: MmioV2DeviceState, word: F) -> u32
+    requires { F.IsAlwaysCallable word }
+    ensures { MatchOption (selected_region s) (result ≡ NO_REGION) (λ r. F.post word r result) }
+{
+    s.get_shm_field().map_or(NO_REGION, word)
+}
+
 /// The selected region's length, low half.
 pub fn get_shm_len_low(s: MmioV2DeviceState) -> u32
     ensures { result ≡ shm_len_low s }
 {
-    s.get_shm_field()
-        .map_or(NO_REGION, |r| dragonball::low_word(r.length))
+    region_word(s, |r| dragonball::low_word(r.length))
 }
 
 /// The selected region's length, high half.
 pub fn get_shm_len_high(s: MmioV2DeviceState) -> u32
     ensures { result ≡ shm_len_high s }
 {
-    s.get_shm_field()
-        .map_or(NO_REGION, |r| dragonball::high_word(r.length))
+    region_word(s, |r| dragonball::high_word(r.length))
 }
 
 /// The selected region's base, low half.
@@ -112,7 +140,7 @@ pub fn get_shm_base_low(s: MmioV2DeviceState) -> u32
     ensures { result ≡ shm_base_low s }
 {
     let list = s.config.list;
-    s.get_shm_field().map_or(NO_REGION, |r| {
+    region_word(s, |r| {
         dragonball::low_word(dragonball::shm_base(r.offset, list))
     })
 }
@@ -122,7 +150,7 @@ pub fn get_shm_base_high(s: MmioV2DeviceState) -> u32
     ensures { result ≡ shm_base_high s }
 {
     let list = s.config.list;
-    s.get_shm_field().map_or(NO_REGION, |r| {
+    region_word(s, |r| {
         dragonball::high_word(dragonball::shm_base(r.offset, list))
     })
 }

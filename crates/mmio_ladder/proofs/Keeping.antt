@@ -6,6 +6,8 @@ use Prim.Native.Nat.{ℕ}
 use borrow.Author.Tests.{eqb-true}
 use lib.Bits.{bit_or}
 use lib.Dec.{eqb}
+use Rattle.std.specs.List.{list_all}
+use Rattle.std.proofs.lemmas.Bool.{and_parts}
 use Rattle.words.specs.Pick.{pick}
 use Rattle.tape.specs.Held.{held_after}
 use Rattle.tape.specs.declared.Held.{Held}
@@ -25,27 +27,21 @@ use Rattle.mmio_ladder.specs.declared.Move.TheVariants.{Take, Start, Reset, Stay
 
 -- ---- the ten statuses
 
-pub data All (P : ℕ → Type 0) : List ℕ → Type 0 where
-  none : All P []
-  more : {x : ℕ} {xs : List ℕ} → P x → All P xs → All P (x ∷ xs)
-
-pub member : (P : ℕ → Type 0) (v : ℕ) (xs : List ℕ) → All P xs → among v xs ≡ true → P v
-member P v [] none h = absurd (true≢false (sym h))
-member P v (x ∷ xs) (more p m) h = go (eqb v x) refl h (member P v xs m)
+-- a test that each of a list passes is passed by one among them
+pub member : (p : ℕ → Bool) (v : ℕ) (xs : List ℕ) → list_all p xs ≡ true → among v xs ≡ true → p v ≡ true
+member p v [] a h = absurd (true≢false (sym h))
+member p v (x ∷ xs) a h = go (eqb v x) refl h (member p v xs (and_parts (p x) (list_all p xs) a).1)
   where
-    go : (t : Bool) → eqb v x ≡ t → pick t true (among v xs) ≡ true → (among v xs ≡ true → P v) → P v
-    go true e k f = rw (eqb-true v x e) p
+    go : (t : Bool) → eqb v x ≡ t → pick t true (among v xs) ≡ true → (among v xs ≡ true → p v ≡ true) → p v ≡ true
+    go true e k f = rw (eqb-true v x e) (and_parts (p x) (list_all p xs) a).0
     go false e k f = f k
-
-abbrev StaysOn : (List ℕ) → ℕ → Type 0
-StaysOn xs v = among (failed v) xs ≡ true
 
 -- FAILED leaves a status among the ten, and one at the top there
 pub failed-on : (v : ℕ) → among v statuses ≡ true → among (failed v) statuses ≡ true
-failed-on v h = member (StaysOn statuses) v statuses (more refl (more refl (more refl (more refl (more refl (more refl (more refl (more refl (more refl (more refl none)))))))))) h
+failed-on v h = member (λ (x : ℕ). among (failed x) statuses) v statuses refl h
 
 pub failed-top : (v : ℕ) → among v top_statuses ≡ true → among (failed v) top_statuses ≡ true
-failed-top v h = member (StaysOn top_statuses) v top_statuses (more refl (more refl none)) h
+failed-top v h = member (λ (x : ℕ). among (failed x) top_statuses) v top_statuses refl h
 
 -- ---- the rungs are unions of the standard's bits, one more at each (virtio 1.2, 2.1 and 3.1.1)
 
@@ -63,7 +59,7 @@ rung-f = refl
 
 -- what FAILED sets is the standard's bit, on every status that has it clear
 pub failed-bit : (v : ℕ) → among v statuses ≡ true → failed v ≡ bit_or v std.FAILED
-failed-bit v h = member (λ (x : ℕ). failed x ≡ bit_or x std.FAILED) v statuses (more refl (more refl (more refl (more refl (more refl (more refl (more refl (more refl (more refl (more refl none)))))))))) h
+failed-bit v h = eqb-true (failed v) (bit_or v std.FAILED) (member (λ (x : ℕ). eqb (failed x) (bit_or x std.FAILED)) v statuses refl h)
 
 -- ---- states with the same status, or with FAILED set
 

@@ -22,7 +22,7 @@ moved s k Fail = quiet s false
 
 -- an effect with this status at its end
 abbrev pub marking : Effect → (status : ℕ) → Effect
-marking e v = record { state = status_set e.state v; ok = e.ok; actions = e.actions }
+marking e v = record e { state = status_set e.state v }
 
 abbrev pub laddered : State → (k : ℕ) → Move → Effect
 laddered s k m = marking (moved s k m) (status_after m s.hot.status (moved s k m).ok)
@@ -33,4 +33,4 @@ climbing s v k = laddered s k (move_of v s.hot.status s.flags.active)
 
 -- the code's answer with another status
 abbrev pub marked : Done → (status : ℕ) → Done
-marked d v = record { state = status_set d.state v; ok = d.ok; count = d.count }
+marked d v = record d { state = status_set d.state v }

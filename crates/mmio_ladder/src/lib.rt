@@ -14,18 +14,21 @@ ghost use Rattle.mmio_ladder.specs.Ladder.{down_move, from, move_of, status_afte
 ghost use Rattle.mmio_ladder.specs.Climbing.{climbing, laddered, marked, status_set};
 
 use mmio_hot::Hot;
-use mmio_state::{Done, MmioV2DeviceState};
+use mmio_state::{
+    DEVICE_ACKNOWLEDGE, DEVICE_DRIVER, DEVICE_DRIVER_OK, DEVICE_FAILED, DEVICE_FEATURES_OK,
+    DEVICE_INIT, Done, MmioV2DeviceState,
+};
 use words::Refusal;
 
-pub const DEVICE_STATUS_INIT: u32 = 0x0;
+pub const DEVICE_STATUS_INIT: u32 = DEVICE_INIT;
 
-pub const DEVICE_STATUS_ACKNOWLEDE: u32 = 0x1;
+pub const DEVICE_STATUS_ACKNOWLEDE: u32 = DEVICE_STATUS_INIT | DEVICE_ACKNOWLEDGE;
 
-pub const DEVICE_STATUS_DRIVER: u32 = 0x3;
+pub const DEVICE_STATUS_DRIVER: u32 = DEVICE_STATUS_ACKNOWLEDE | DEVICE_DRIVER;
 
-pub const DEVICE_STATUS_FEATURE_OK: u32 = 0xb;
+pub const DEVICE_STATUS_FEATURE_OK: u32 = DEVICE_STATUS_DRIVER | DEVICE_FEATURES_OK;
 
-pub const DEVICE_STATUS_DRIVER_OK: u32 = 0xf;
+pub const DEVICE_STATUS_DRIVER_OK: u32 = DEVICE_STATUS_FEATURE_OK | DEVICE_DRIVER_OK;
 
 /// What a value written to the status register asks for.
 #[derive(Clone, Copy, PartialEq, Eq, Debug)]
@@ -78,7 +81,11 @@ pub fn move_of(v: u32, status: u32, active: bool) -> Move
 fn start_status(ok: bool) -> u32
     ensures { result ≡ pick ok 0xf 0x8f }
 {
-    if ok { DEVICE_STATUS_DRIVER_OK } else { 0x8f }
+    if ok {
+        DEVICE_STATUS_DRIVER_OK
+    } else {
+        DEVICE_STATUS_DRIVER_OK | DEVICE_FAILED
+    }
 }
 
 fn reset_status(h: Hot, ok: bool) -> u32
@@ -101,7 +108,7 @@ fn set_status(mut s: MmioV2DeviceState, v: u32) -> MmioV2DeviceState
 fn mark(mut d: Done, v: u32) -> Done
     ensures { result ≡ marked d v }
 {
-    d.state.hot.status = v;
+    d.state = set_status(d.state, v);
     d
 }
 

@@ -8,6 +8,7 @@ use borrow.Author.Tests.{ltb-true}
 use lib.Dec.{eqb}
 use lib.ListN.{get_or, set}
 use lib.Seq.{get_or-set_other}
+use Rattle.std.proofs.lemmas.Bool.{and_parts}
 use Rattle.words.specs.Pick.{pick}
 use Rattle.msi.specs.Stage.{no_message, with_index_select}
 use Rattle.msi.specs.declared.Msi.{Msi}
@@ -99,9 +100,7 @@ module _ {s : State} (d : Sound s) where
   mask-sound v m g = go (asks_mask s v m && g) refl
     where
       there : (a b c e : Bool) → ((a && b) && c) && e ≡ true → b ≡ true
-      there true true c e h = refl
-      there true false c e h = absurd (true≢false (sym h))
-      there false b c e h = absurd (true≢false (sym h))
+      there a b c e h = (and_parts a b (and_parts (a && b) c (and_parts ((a && b) && c) e h).0).0).1
 
       go : (t : Bool) → asks_mask s v m && g ≡ t → Sound (with_vectors s s.stage (pick t (masked_at s.vectors v m) s.vectors))
       go true h =

@@ -6,14 +6,12 @@
 
 #![tactic(auto)]
 
-ghost use Rattle.std.specs.Prelude.{◌≡◌, ◌&&◌, ◌<◌, length};
+ghost use Rattle.std.specs.Prelude.{◌≡◌, ◌<◌, length};
 ghost use Rattle.msi.specs.Stage.{with_address_high, with_address_low, with_data};
 ghost use Rattle.tape.specs.Actions.{act};
-ghost use Rattle.mmio_tables.specs.Tables.{updatable, vector_at};
 ghost use Rattle.mmio_state.specs.Effect.{done, written};
-ghost use Rattle.mmio_msi.specs.Messages.{asks_mask, commanded, commanding, controlled, enabling, masking, staged, turned, updated_state};
+ghost use Rattle.mmio_msi.specs.Messages.{asks_mask, asks_update, commanded, commanding, controlled, enabling, heeded, masking, staged, turned, updated_state};
 
-use mmio_config::Config;
 use mmio_hot::{Command, Csr};
 use mmio_state::{Done, MmioV2DeviceState};
 use msi::Msi;
@@ -63,10 +61,10 @@ fn turn(s: MmioV2DeviceState, msi: bool, k: u32, actions: &mut [u64]) -> Result<
     mmio_state::tell(u, k != 0, told(ACTION_MODE, u64::from(msi)), actions)
 }
 
-fn heeded(dataqueues: u32, msi: bool, v: VectorIndex) -> bool
-    ensures { result ≡ updatable dataqueues v.0 && msi }
+fn heeded(s: MmioV2DeviceState, v: VectorIndex) -> bool
+    ensures { result ≡ heeded s v.0 }
 {
-    mmio_tables::may_update(dataqueues, v) && msi
+    mmio_tables::may_update(s.config.dataqueues, v) && s.hot.msi
 }
 
 // The index kept, and the message stored if the vector exists. A command's argument has twelve bits.
@@ -74,21 +72,20 @@ fn update_state(mut s: MmioV2DeviceState, v: VectorIndex) -> MmioV2DeviceState
     requires { v.0 < 4096 }
     ensures { result ≡ updated_state s v.0 }
 {
-    if heeded(s.config.dataqueues, s.hot.msi, v) {
+    if heeded(s, v) {
         let m = s.stage.staged_index_select(v.0 as u32);
         s.stage = m;
         if mmio_tables::vector_exists(v, s.config.vectors) {
-            let vectors = mmio_tables::store_at(s.vectors, v, m);
-            s.vectors = vectors;
+            s.vectors = mmio_tables::store_at(s.vectors, v, m);
         }
     }
     s
 }
 
-fn asks_update(c: Config, msi: bool, enabled: bool, v: VectorIndex) -> bool
-    ensures { result ≡ ((updatable c.dataqueues v.0 && msi) && vector_at v.0 c.vectors) && enabled }
+fn asks_update(s: MmioV2DeviceState, v: VectorIndex) -> bool
+    ensures { result ≡ asks_update s v.0 }
 {
-    heeded(c.dataqueues, msi, v) && mmio_tables::vector_exists(v, c.vectors) && enabled
+    heeded(s, v) && mmio_tables::vector_exists(v, s.config.vectors) && s.flags.enabled
 }
 
 fn update_msi_cfg(
@@ -102,7 +99,7 @@ fn update_msi_cfg(
     ensures actions_after { actions.new ≡ written actions.old (commanded s k (Command.Update v)) }
 {
     let u = update_state(s, v);
-    if asks_update(s.config, s.hot.msi, s.flags.enabled, v) {
+    if asks_update(s, v) {
         mmio_state::tell(u, k != 0, told(ACTION_UPDATE, v.0), actions)
     } else {
         mmio_state::ask_nothing(u, true, actions)
@@ -132,8 +129,7 @@ fn mask_msi_int(
         return mmio_state::ask_nothing(s, true, actions);
     }
     if k != 0 {
-        let vectors = mmio_tables::mask_at(s.vectors, v, mask);
-        s.vectors = vectors;
+        s.vectors = mmio_tables::mask_at(s.vectors, v, mask);
     }
     mmio_state::tell(s, k != 0, told(kind, v.0), actions)
 }
