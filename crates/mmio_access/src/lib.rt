@@ -8,7 +8,7 @@
 
 ghost use Rattle.std.specs.Prelude.{◌≡◌, MatchOption, bit_and, bit_or, eqb, length};
 ghost use Rattle.mmio_state.specs.Fields.{selected_region};
-ghost use Rattle.tape.specs.Actions.{act};
+ghost use Rattle.tape.specs.Calls.{action_of};
 ghost use Rattle.mmio_state.specs.Effect.{done, written};
 ghost use Rattle.mmio_access.specs.Gates.{acks_open, config_open, fields_open};
 ghost use Rattle.mmio_access.specs.Shown.{csr_word, device_features, doorbell_word, shm_base_high, shm_base_low, shm_len_high, shm_len_low, tweaked};
@@ -19,12 +19,11 @@ use dragonball::{
     DRAGONBALL_MMIO_DOORBELL_SCALE, DoorBell, MMIO_MSI_CSR_SUPPORTED,
 };
 use mmio_config::Region;
-use mmio_state::{
-    DEVICE_DRIVER, DEVICE_DRIVER_OK, DEVICE_FAILED, DEVICE_FEATURES_OK, Done, MmioV2DeviceState,
-};
-use tape::{ACTION_READ_CONFIG, ACTION_WRITE_CONFIG};
+use mmio_hot::{DEVICE_DRIVER, DEVICE_DRIVER_OK, DEVICE_FAILED, DEVICE_FEATURES_OK};
+use mmio_state::{Done, MmioV2DeviceState};
+use tape::Call;
 use virtq::Field;
-use words::{Action, Refusal};
+use words::Refusal;
 
 /// An interrupt bit: the device used a buffer.
 pub const VIRTIO_INTR_VRING: u32 = 0x01;
@@ -161,7 +160,7 @@ pub fn get_shm_base_high(s: MmioV2DeviceState) -> u32
 pub fn set_features_select(mut s: MmioV2DeviceState, v: u32) -> MmioV2DeviceState
     ensures { result ≡ selected s v s.hot.ackpage s.hot.queue s.hot.region }
 {
-    s.hot = s.hot.set_features_select(v);
+    s.hot.page = v;
     s
 }
 
@@ -169,7 +168,7 @@ pub fn set_features_select(mut s: MmioV2DeviceState, v: u32) -> MmioV2DeviceStat
 pub fn set_acked_features_select(mut s: MmioV2DeviceState, v: u32) -> MmioV2DeviceState
     ensures { result ≡ selected s s.hot.page v s.hot.queue s.hot.region }
 {
-    s.hot = s.hot.set_acked_features_select(v);
+    s.hot.ackpage = v;
     s
 }
 
@@ -177,7 +176,7 @@ pub fn set_acked_features_select(mut s: MmioV2DeviceState, v: u32) -> MmioV2Devi
 pub fn set_queue_select(mut s: MmioV2DeviceState, v: u32) -> MmioV2DeviceState
     ensures { result ≡ selected s s.hot.page s.hot.ackpage v s.hot.region }
 {
-    s.hot = s.hot.set_queue_select(v);
+    s.hot.queue = v;
     s
 }
 
@@ -185,7 +184,7 @@ pub fn set_queue_select(mut s: MmioV2DeviceState, v: u32) -> MmioV2DeviceState
 pub fn set_shm_region_id(mut s: MmioV2DeviceState, v: u32) -> MmioV2DeviceState
     ensures { result ≡ selected s s.hot.page s.hot.ackpage s.hot.queue v }
 {
-    s.hot = s.hot.set_shm_region_id(v);
+    s.hot.region = v;
     s
 }
 
@@ -233,25 +232,12 @@ pub fn set_acked_features(
 }
 
 // A read or a write of the device's own configuration, where the status lets it through.
-fn ask_config(
-    s: MmioV2DeviceState,
-    kind: u64,
-    offset: u64,
-    len: usize,
-    actions: &mut [u64],
-) -> Result<Done, Refusal>
-    ensures value { result ≡ done (length actions.old) (config_asked s (act kind offset len 0 0)) }
-    ensures actions_after { actions.new ≡ written actions.old (config_asked s (act kind offset len 0 0)) }
+fn ask_config(s: MmioV2DeviceState, call: Call, actions: &mut [u64]) -> Result<Done, Refusal>
+    ensures value { result ≡ done (length actions.old) (config_asked s (action_of call)) }
+    ensures actions_after { actions.new ≡ written actions.old (config_asked s (action_of call)) }
 {
-    let x = Action {
-        kind,
-        a: offset,
-        b: len as u64,
-        c: 0,
-        d: 0,
-    };
     if config_open(s.hot.status) {
-        mmio_state::tell(s, true, x, actions)
+        mmio_state::tell(s, true, call.into(), actions)
     } else {
         mmio_state::ask_nothing(s, true, actions)
     }
@@ -267,7 +253,7 @@ pub fn get_device_config(
     ensures value { result ≡ done (length actions.old) (config_read s offset len) }
     ensures actions_after { actions.new ≡ written actions.old (config_read s offset len) }
 {
-    ask_config(s, ACTION_READ_CONFIG, offset, len, actions)
+    ask_config(s, Call::ReadConfig(offset, len), actions)
 }
 
 /// A write to the device's own configuration: action 13, where the status lets it through.
@@ -280,5 +266,5 @@ pub fn set_device_config(
     ensures value { result ≡ done (length actions.old) (config_written s offset len) }
     ensures actions_after { actions.new ≡ written actions.old (config_written s offset len) }
 {
-    ask_config(s, ACTION_WRITE_CONFIG, offset, len, actions)
+    ask_config(s, Call::WriteConfig(offset, len), actions)
 }

@@ -13,14 +13,13 @@ ghost use Rattle.mmio_state.specs.Effect.{done, written};
 ghost use Rattle.mmio_ladder.specs.Ladder.{down_move, from, move_of, status_after};
 ghost use Rattle.mmio_ladder.specs.Climbing.{climbing, laddered, marked, status_set};
 
-use mmio_hot::Hot;
-use mmio_state::{
-    DEVICE_ACKNOWLEDGE, DEVICE_DRIVER, DEVICE_DRIVER_OK, DEVICE_FAILED, DEVICE_FEATURES_OK,
-    DEVICE_INIT, Done, MmioV2DeviceState,
+use mmio_hot::{
+    DEVICE_ACKNOWLEDGE, DEVICE_DRIVER, DEVICE_DRIVER_OK, DEVICE_FAILED, DEVICE_FEATURES_OK, Hot,
 };
+use mmio_state::{Done, MmioV2DeviceState};
 use words::Refusal;
 
-pub const DEVICE_STATUS_INIT: u32 = DEVICE_INIT;
+pub const DEVICE_STATUS_INIT: u32 = 0x0;
 
 pub const DEVICE_STATUS_ACKNOWLEDE: u32 = DEVICE_STATUS_INIT | DEVICE_ACKNOWLEDGE;
 

@@ -8,28 +8,17 @@
 
 ghost use Rattle.std.specs.Prelude.{◌≡◌, ◌<◌, length};
 ghost use Rattle.msi.specs.Stage.{with_address_high, with_address_low, with_data};
-ghost use Rattle.tape.specs.Actions.{act};
+ghost use Rattle.words.specs.Pick.{pick};
+ghost use Rattle.tape.specs.Actions.{mask_vector, unmask_vector};
 ghost use Rattle.mmio_state.specs.Effect.{done, written};
 ghost use Rattle.mmio_msi.specs.Messages.{asks_mask, asks_update, commanded, commanding, controlled, enabling, heeded, masking, staged, turned, updated_state};
 
 use mmio_hot::{Command, Csr};
 use mmio_state::{Done, MmioV2DeviceState};
 use msi::Msi;
-use tape::{ACTION_MASK, ACTION_MODE, ACTION_UNMASK, ACTION_UPDATE};
+use tape::Call;
 use virtq::VectorIndex;
-use words::{Action, Refusal};
-
-fn told(kind: u64, v: u64) -> Action
-    ensures { result ≡ act kind v 0 0 0 }
-{
-    Action {
-        kind,
-        a: v,
-        b: 0,
-        c: 0,
-        d: 0,
-    }
-}
+use words::Refusal;
 
 fn staged(mut s: MmioV2DeviceState, m: Msi) -> MmioV2DeviceState
     ensures { result ≡ staged s m }
@@ -58,7 +47,7 @@ fn turn(s: MmioV2DeviceState, msi: bool, k: u32, actions: &mut [u64]) -> Result<
     } else {
         turned(s, msi)
     };
-    mmio_state::tell(u, k != 0, told(ACTION_MODE, u64::from(msi)), actions)
+    mmio_state::tell(u, k != 0, Call::Mode(msi).into(), actions)
 }
 
 fn heeded(s: MmioV2DeviceState, v: VectorIndex) -> bool
@@ -100,7 +89,7 @@ fn update_msi_cfg(
 {
     let u = update_state(s, v);
     if asks_update(s, v) {
-        mmio_state::tell(u, k != 0, told(ACTION_UPDATE, v.0), actions)
+        mmio_state::tell(u, k != 0, Call::Update(v).into(), actions)
     } else {
         mmio_state::ask_nothing(u, true, actions)
     }
@@ -118,12 +107,11 @@ fn mask_msi_int(
     mut s: MmioV2DeviceState,
     v: VectorIndex,
     mask: bool,
-    kind: u64,
     k: u32,
     actions: &mut [u64],
 ) -> Result<Done, Refusal>
-    ensures value { result ≡ done (length actions.old) (masking s v.0 mask (act kind v.0 0 0 0) k) }
-    ensures actions_after { actions.new ≡ written actions.old (masking s v.0 mask (act kind v.0 0 0 0) k) }
+    ensures value { result ≡ done (length actions.old) (masking s v.0 mask (pick mask (mask_vector v.0) (unmask_vector v.0)) k) }
+    ensures actions_after { actions.new ≡ written actions.old (masking s v.0 mask (pick mask (mask_vector v.0) (unmask_vector v.0)) k) }
 {
     if !asks_mask(s, v, mask) {
         return mmio_state::ask_nothing(s, true, actions);
@@ -131,7 +119,8 @@ fn mask_msi_int(
     if k != 0 {
         s.vectors = mmio_tables::mask_at(s.vectors, v, mask);
     }
-    mmio_state::tell(s, k != 0, told(kind, v.0), actions)
+    let call = if mask { Call::Mask(v) } else { Call::Unmask(v) };
+    mmio_state::tell(s, k != 0, call.into(), actions)
 }
 
 /// The low half of the staged address: kept only while MSI is on.
@@ -184,8 +173,8 @@ pub fn handle_msi_cmd(
 {
     match mmio_hot::command_at(v) {
         Command::Update(w) => update_msi_cfg(s, w, k, actions),
-        Command::Mask(w) => mask_msi_int(s, w, true, ACTION_MASK, k, actions),
-        Command::Unmask(w) => mask_msi_int(s, w, false, ACTION_UNMASK, k, actions),
+        Command::Mask(w) => mask_msi_int(s, w, true, k, actions),
+        Command::Unmask(w) => mask_msi_int(s, w, false, k, actions),
         Command::Other => mmio_state::ask_nothing(s.set_driver_failed(), false, actions),
     }
 }

@@ -8,7 +8,6 @@
 
 ghost use Rattle.std.specs.Prelude.{◌≡◌, length};
 ghost use Rattle.words.specs.Pick.{pick};
-ghost use Rattle.tape.specs.Actions.{ack_features};
 ghost use Rattle.mmio_state.specs.State.{failed_state};
 ghost use Rattle.mmio_state.specs.Effect.{done, ended, quiet, room, telling, written};
 ghost use Rattle.mmio_state.specs.Fresh.{begun, made, no_state};
@@ -19,22 +18,9 @@ use mmio_config::{Config, Configuration, Flags, MAX_VECTORS, Region, Vector};
 use mmio_hot::Hot;
 use mmio_tables::{Kind, Standing};
 use msi::Msi;
-use tape::{ACTION_ACKED_FEATURES, Held, Tape};
+use tape::{Call, Held, Tape};
 use virtq::{Field, MAX_QUEUES, Queue, QueueIndex};
 use words::{Action, Refusal};
-
-// The bits of the device status.
-pub const DEVICE_INIT: u32 = 0x00;
-
-pub const DEVICE_ACKNOWLEDGE: u32 = 0x01;
-
-pub const DEVICE_DRIVER: u32 = 0x02;
-
-pub const DEVICE_DRIVER_OK: u32 = 0x04;
-
-pub const DEVICE_FEATURES_OK: u32 = 0x08;
-
-pub const DEVICE_FAILED: u32 = 0x80;
 
 /// The words that every operation must be lent: five for each of the most records it can ask.
 pub const ACTION_WORDS: usize = 320;
@@ -170,17 +156,6 @@ fn reset_to(s: MmioV2DeviceState, held: [Held; MAX_QUEUES], ok: bool) -> MmioV2D
     if ok { wipe_state(s, held) } else { s }
 }
 
-fn acked(page: u32, v: u32) -> Action
-    ensures { result ≡ ack_features page v }
-{
-    Action {
-        kind: ACTION_ACKED_FEATURES,
-        a: u64::from(page),
-        b: u64::from(v),
-        ..Action::default()
-    }
-}
-
 impl MmioV2DeviceState {
     /// A fresh state, or its refusal: 2 to 6.
     #[tactic(auto, unfolding(crate::specs::Fresh::made, mmio_config::specs::Fresh::configured))]
@@ -217,7 +192,8 @@ impl MmioV2DeviceState {
         ensures value { result ≡ done (length actions.old) (acking self v) }
         ensures actions_after { actions.new ≡ written actions.old (acking self v) }
     {
-        tell(self, true, acked(self.hot.ackpage, v), actions)
+        let call = Call::AckedFeatures(self.hot.ackpage, v);
+        tell(self, true, call.into(), actions)
     }
 
     /// FAILED set.
