@@ -1,6 +1,6 @@
 -- THE CLAIM on writes: at every offset and length, on every real state, the write does what the standard's meaning of the
 -- register does, but where `write_parts` says otherwise; and what an accepted reset has of the standard's.
-use mathlib.Core.Bool.{Bool, true, false, ◌&&◌, true≢false}
+use mathlib.Core.Bool.{Bool, true, false, not, ◌&&◌, true≢false}
 use mathlib.Core.Path.{◌≡◌, refl, sym, ap, fun_ext, ◌∙◌}
 use mathlib.Core.List.{List, [], ◌∷◌}
 use Prim.Native.Nat.{ℕ, zero, suc, ◌%◌, ◌^◌, ◌<◌}
@@ -10,6 +10,7 @@ use lib.Bits.{bit_or, or_self}
 use lib.Dec.{eqb, ltb}
 use lib.ListN.{get_or, set, length}
 use lib.Seq.{get_or-set_same, get_or-set_other}
+use Rattle.std.proofs.lemmas.Bool.{and_parts}
 use Rattle.words.specs.Pick.{pick}
 use Rattle.words.specs.Bytes.{read_le}
 use Rattle.words.specs.declared.Action.{Action}
@@ -120,16 +121,12 @@ ringed s f n rs = std.marking (plain s f n) f n s.hot.interrupts s.hot.status rs
 abbrev statused : State → (ℕ → ℕ) → List ℕ → (status : ℕ) → Plain
 statused s f n x = std.marking (plain s f n) f n s.hot.interrupts x (ring_of s)
 
-both : (a b : Bool) → a && b ≡ true → (a ≡ true) × (b ≡ true)
-both true b h = (refl, h)
-both false b h = absurd (true≢false (sym h))
-
 module _ (s : State) (t : Typed s) (f : ℕ → ℕ) (n : List ℕ) where
   field-writes : (g : Field) (v : ℕ) → lays s g v ≡ true → plain (field_updated s g v) f n ≡ place_writes (plain s f n) (field_place g) v
   field-writes g v h =
-      let a = both (fields_open s.hot.status) _ h in
-      let b = both (ltb s.hot.queue (queues_in s)) _ a.1 in
-      let c = both (fit (get_or s.config.sizes s.hot.queue 0) g v) (whole g v) b.1 in
+      let a = and_parts (fields_open s.hot.status) _ h in
+      let b = and_parts (ltb s.hot.queue (queues_in s)) _ a.1 in
+      let c = and_parts (fit (get_or s.config.sizes s.hot.queue 0) g v) (whole g v) b.1 in
       ap (λ (qs : List Queue). plain (with_queues s qs) f n) (counted a.0 b.0 c.0)
       ∙ go g (ap (ringed s f n) (fun_ext (each-ring s t g v c.1 b.0)))
     where
@@ -230,16 +227,14 @@ module _ (s : State) (r : Real s) (f : ℕ → ℕ) (n : List ℕ) where
       go false false hs xs i o u = absurd (true≢false (sym o))
       go false true hs xs i o u = ap (λ (y : ℕ → ℕ). statused s y n 0xf) u ∙ marks v 0xf (rw e) (rw e h)
 
+  -- FAILED set is a status above this one, and not zero
+  failed-above : (bit_or s.hot.status (failed s.hot.status) ≡ failed s.hot.status) × (eqb (failed s.hot.status) 0 ≡ false)
+  failed-above =
+      let p = and_parts _ _ (ladder.member (λ (x : ℕ). eqb (bit_or x (failed x)) (failed x) && not (eqb (failed x) 0)) s.hot.status statuses refl r.status) in
+      (eqb-true _ _ p.0, not-true _ p.1)
+
   fail-marks : (v : ℕ) → eqb v (failed s.hot.status) ≡ true → statused s f n (failed s.hot.status) ≡ std.status_written (plain s f n) v
-  fail-marks v h =
-      let e = eqb-true v (failed s.hot.status) h in
-      let p = ladder.member (λ (x : ℕ). (bit_or x (failed x) ≡ failed x) × (eqb (failed x) 0 ≡ false)) s.hot.status statuses ten r.status in
-      marks v (failed s.hot.status) (rw e p.1) (rw e p.0)
-    where
-      ten : ladder.All (λ (x : ℕ). (bit_or x (failed x) ≡ failed x) × (eqb (failed x) 0 ≡ false)) statuses
-      ten =
-          ladder.more (refl, refl) (ladder.more (refl, refl) (ladder.more (refl, refl) (ladder.more (refl, refl) (ladder.more (refl, refl)
-          (ladder.more (refl, refl) (ladder.more (refl, refl) (ladder.more (refl, refl) (ladder.more (refl, refl) (ladder.more (refl, refl) ladder.none)))))))))
+  fail-marks v h = let e = eqb-true v (failed s.hot.status) h in marks v (failed s.hot.status) (rw e failed-above.1) (rw e failed-above.0)
 
   status-writes : (v k : ℕ) → (m : Move) → move_of v s.hot.status s.flags.active ≡ m → Asked v s.hot.status m → bits_set v s.hot.status m (moved s k m).ok ≡ true
       → Marks v (laddered s k m)

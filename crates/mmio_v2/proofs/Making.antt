@@ -8,7 +8,7 @@ use Rattle.words.specs.declared.Refusal.{Refusal}
 use Rattle.words.specs.declared.Refusal.TheVariants as E
 use Rattle.mmio_config.specs.Fresh.{refused_for}
 use Rattle.mmio_config.specs.declared.Configuration.{Configuration}
-use Rattle.mmio_v2.specs.Fresh.{device, refusal, new_device, made_device, made_of}
+use Rattle.mmio_v2.specs.Fresh.{device, new_device, made_device, made_of}
 use Rattle.mmio_state.specs.Fresh.{no_state}
 use Rattle.mmio_v2.specs.declared.MadeDevice.{MadeDevice}
 use Rattle.mmio_v2.specs.declared.MmioV2Device.{MmioV2Device}
@@ -34,12 +34,8 @@ made_new c = go (eqb c.size 0x2000) (refused_for c) refl refl
     go true (Some E.RecordData) e f = rw (e, f)
     go true (Some E.UnknownQueue) e f = rw (e, f)
 
--- a refusal's number is the same whether a device is made or only asked for, and so is the device
+-- the device is the same whether it is made or only asked for
 module _ (c : Configuration) (r : Result MmioV2Device Refusal) (e : r ≡ new_device c) where
-  pub new-refused : (made_of r).refusal ≡ refusal c
-  unfolding made_device
-  new-refused = ap (λ (m : MadeDevice). m.refusal) (ap made_of e ∙ made_new c)
-
   pub new-or-zeros : (made_of r).device ≡ (made_device c).device
   new-or-zeros = ap (λ (m : MadeDevice). m.device) (ap made_of e ∙ made_new c)
 

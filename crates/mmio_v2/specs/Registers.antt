@@ -58,24 +58,8 @@ fits_reply Nothing l = true
 
 -- what a read of this length asks: action 12 for the configuration, and else nothing
 abbrev pub read_asks : State → ReadRegister → (length : ℕ) → List Action
-read_asks s R.MagicValue l = []
-read_asks s R.Version l = []
-read_asks s R.DeviceId l = []
-read_asks s R.VendorId l = []
-read_asks s R.DeviceFeature l = []
-read_asks s R.QueueNumMax l = []
-read_asks s R.QueueReady l = []
-read_asks s R.QueueNotify l = []
-read_asks s R.InterruptStatus l = []
-read_asks s R.Status l = []
-read_asks s R.ShmLenLow l = []
-read_asks s R.ShmLenHigh l = []
-read_asks s R.ShmBaseLow l = []
-read_asks s R.ShmBaseHigh l = []
-read_asks s R.ConfigGeneration l = []
-read_asks s R.MsiCsr l = []
 read_asks s (R.Config n) l = (config_read s n l).actions
-read_asks s R.Unknown l = []
+read_asks s _ l = []
 
 abbrev pub reading_asks : State → ReadRegister → (length : ℕ) → Effect
 reading_asks s r l = asking s (read_asks s r l)

@@ -7,11 +7,11 @@
 
 #![tactic(auto)]
 
-ghost use Rattle.std.specs.Prelude.{◌≡◌, true, length};
+ghost use Rattle.std.specs.Prelude.{◌≡◌, MatchResult, true, length};
 ghost use Rattle.std.proofs.lemmas.List.Edits.{sets};
 ghost use Rattle.words.specs.Refusals.{refusal_number};
+ghost use Rattle.words.specs.Bytes.{read_le};
 ghost use Rattle.tape.specs.Play.{laid};
-ghost use Rattle.registers.specs.Registers.{read_at};
 ghost use Rattle.mmio_state.specs.Effect.{done, written};
 ghost use Rattle.mmio_state.specs.Fields.{answer_to, held_answer_to};
 ghost use Rattle.mmio_v2.specs.Fresh.{made_of, new_device};
@@ -19,7 +19,6 @@ ghost use Rattle.mmio_v2.specs.Registers.{bytes_shown, does, fits_reply, reading
 ghost use Rattle.mmio_v2.specs.Operation.{Raise, Read, Write};
 ghost use Rattle.mmio_v2.specs.Step.{answer_of, counted_of, of_done, refused_as, replied, step};
 
-use dragonball::MMIO_CFG_SPACE_OFF;
 use mmio_config::Configuration;
 use mmio_state::{Done, MmioV2DeviceState};
 use mmio_tables::{Kind, Standing};
@@ -126,35 +125,44 @@ fn give(reply: &mut [u8], x: Shown) -> usize
     }
 }
 
-// What a read asks: action 12 for the configuration. How many records.
-fn ask(s: MmioV2DeviceState, offset: u64, len: usize, actions: &mut [u64]) -> Result<usize, Refusal>
-    ensures value { result ≡ counted_of (done (length actions.old) (reading_asks s (read_at offset len) len)) }
-    ensures actions_after { actions.new ≡ written actions.old (reading_asks s (read_at offset len) len) }
+// What a read of a register asks: action 12 for the configuration. How many records.
+fn ask(
+    s: MmioV2DeviceState,
+    r: ReadRegister,
+    len: usize,
+    actions: &mut [u64],
+) -> Result<usize, Refusal>
+    ensures value { result ≡ counted_of (done (length actions.old) (reading_asks s r len)) }
+    ensures actions_after { actions.new ≡ written actions.old (reading_asks s r len) }
 {
-    if MMIO_CFG_SPACE_OFF <= offset {
-        let d = mmio_access::get_device_config(s, offset - MMIO_CFG_SPACE_OFF, len, actions)?;
-        Ok(d.count)
-    } else {
-        mmio_state::enough(actions)?;
-        Ok(0)
+    match r {
+        ReadRegister::Config(at) => {
+            let d = mmio_access::get_device_config(s, at, len, actions)?;
+            Ok(d.count)
+        }
+        _ => {
+            mmio_state::enough(actions)?;
+            Ok(0)
+        }
     }
 }
 
 // ---- a write
 
-// What a write to a register does: v is the word of four bytes, h that of two, len the length.
+// What a write of these bytes to a register does.
 fn write_to(
     s: MmioV2DeviceState,
     r: WriteRegister,
-    v: u32,
-    h: u16,
-    len: usize,
+    bytes: &[u8],
     k: u32,
     actions: &mut [u64],
 ) -> Result<Done, Refusal>
-    ensures value { result ≡ done (length actions.old) (does s v h len k r) }
-    ensures actions_after { actions.new ≡ written actions.old (does s v h len k r) }
+    ensures value { result ≡ done (length actions.old) (does s (read_le 4 bytes.now) (read_le 2 bytes.now) (length bytes.now) k r) }
+    ensures actions_after { actions.new ≡ written actions.old (does s (read_le 4 bytes.now) (read_le 2 bytes.now) (length bytes.now) k r) }
 {
+    let len = bytes.len();
+    let v = u32::read(bytes);
+    let h = u16::read(bytes);
     let u = match r {
         WriteRegister::DriverFeature => return mmio_access::set_acked_features(s, v, actions),
         WriteRegister::Status => return mmio_ladder::update_driver_status(s, v, k, actions),
@@ -188,14 +196,17 @@ fn refuse(device: MmioV2Device, e: Refusal) -> Answer
 }
 
 // What came of an operation, with no reply.
-fn told(d: &Done) -> Answer
-    ensures { result ≡ of_done d.now }
+fn told(device: MmioV2Device, r: &Result<Done, Refusal>) -> Answer
+    ensures { MatchResult r.now (λ d. result ≡ of_done d) (λ e. result ≡ refused_as device e) }
 {
-    Answer {
-        device: MmioV2Device { state: d.state },
-        refusal: 0,
-        reply: 0,
-        count: d.count,
+    match r {
+        Ok(d) => Answer {
+            device: MmioV2Device { state: d.state },
+            refusal: 0,
+            reply: 0,
+            count: d.count,
+        },
+        Err(e) => refuse(device, *e),
     }
 }
 
@@ -219,14 +230,13 @@ impl MmioV2Device {
         ensures reply_after { reply.new ≡ replied reply.old (step (length actions.old) self.state (Read k offset (length reply.old))) }
         ensures actions_after { actions.new ≡ laid actions.old (step (length actions.old) self.state (Read k offset (length reply.old))).actions }
     {
-        let s = self.state;
         let len = reply.len();
-        let count = match ask(s, offset, len, actions) {
+        let r = registers::read_register(offset, len);
+        let count = match ask(self.state, r, len, actions) {
             Ok(count) => count,
             Err(e) => return refuse(self, e),
         };
-        let shown = look(s, registers::read_register(offset, len));
-        let given = give(reply, shown);
+        let given = give(reply, look(self.state, r));
         Answer {
             device: self,
             refusal: 0,
@@ -240,14 +250,8 @@ impl MmioV2Device {
         ensures value { result ≡ answer_of (step (length actions.old) self.state (Write k offset bytes.now)) }
         ensures actions_after { actions.new ≡ laid actions.old (step (length actions.old) self.state (Write k offset bytes.now)).actions }
     {
-        let len = bytes.len();
-        let r = registers::write_register(offset, len);
-        let v = u32::read(bytes);
-        let h = u16::read(bytes);
-        match &write_to(self.state, r, v, h, len, k, actions) {
-            Ok(d) => told(d),
-            Err(e) => refuse(self, *e),
-        }
+        let r = registers::write_register(offset, bytes.len());
+        told(self, &write_to(self.state, r, bytes, k, actions))
     }
 
     /// The given interrupt bits are set, at any status.
@@ -256,10 +260,7 @@ impl MmioV2Device {
         ensures actions_after { actions.new ≡ laid actions.old (step (length actions.old) self.state (Raise bits)).actions }
     {
         let u = mmio_access::raise_interrupts(self.state, bits);
-        match &mmio_state::ask_nothing(u, true, actions) {
-            Ok(d) => told(d),
-            Err(e) => refuse(self, *e),
-        }
+        told(self, &mmio_state::ask_nothing(u, true, actions))
     }
 
     /// The status register.
