@@ -1,6 +1,6 @@
 -- Where a short way is done it is the step: the same state, reply and actions. A raise's is the step everywhere.
 use mathlib.Core.Bool.{Bool, true, false, true≢false}
-use mathlib.Core.Path.{◌≡◌, refl, sym, ap, ap₂, ◌∙◌}
+use mathlib.Core.Path.{◌≡◌, refl, sym}
 use mathlib.Core.List.{List, []}
 use Prim.Native.Nat.{ℕ, ◌≤◌}
 use borrow.Author.Tests.{eqb-true, le-leb}
@@ -16,14 +16,10 @@ use Rattle.mmio_access.specs.Changes.{with_interrupts, cleared}
 use Rattle.mmio_v2.specs.Operation.{Operation, Read, Write, Raise}
 use Rattle.mmio_access.specs.Shown.{tweaked}
 use Rattle.mmio_state.specs.Fields.{selected_ready}
-use Rattle.mmio_v2.specs.Step.{Outcome, refusing, operated, step, replied, answer_of}
-use Rattle.mmio_v2.specs.declared.Answer.{Answer}
-use Rattle.mmio_v2.specs.declared.MmioV2Device.{MmioV2Device}
+use Rattle.mmio_v2.specs.Step.{Outcome, refusing, operated, step, replied}
 use Rattle.mmio_v2.proofs.Found.{reply-short as short}
 use Rattle.mmio_fast.specs.Quick.{when_word, quick_write, quick_read, quick_ready, quick_raise, done, slow}
-use Rattle.mmio_fast.specs.Tell.{tell, told_of, wrote_of}
-use Rattle.mmio_fast.specs.declared.Told.{Told}
-use Rattle.mmio_fast.specs.declared.Wrote.{Wrote}
+use Rattle.mmio_fast.specs.Tell.{tell, told_of}
 use Rattle.mmio_fast.specs.declared.Quick.{Quick}
 use Rattle.mmio_fast.specs.declared.Raised.{Raised}
 
@@ -138,21 +134,3 @@ reply-short w s k o l = by (ltb w room_words)
     by : (t : Bool) → length (pick t (refusing s) (operated s (Read k o l))).reply ≤ 4
     by true = lit≤ tt
     by false = (short s k o l).0
-
--- a write has no reply
-write-mute : (w : ℕ) (s : State) (k o : ℕ) (bs : List ℕ) → length (step w s (Write k o bs)).reply ≡ 0
-write-mute w s k o bs = by (ltb w room_words)
-  where
-    by : (t : Bool) → length (pick t (refusing s) (operated s (Write k o bs))).reply ≡ 0
-    by true = refl
-    by false = refl
-
--- what is told of a write, from its answer
-pub wrote-whole : (w : ℕ) (s : State) (k o : ℕ) (bs : List ℕ) (a : Answer) (t : Told) → a ≡ answer_of (step w s (Write k o bs))
-    → t ≡ tell a.refusal 0 a.count → ◌≡◌ {A = Wrote} (record { told = t; device = a.device }) (wrote_of (step w s (Write k o bs)))
-wrote-whole w s k o bs a t e f =
-    let o' = step w s (Write k o bs) in
-    ap₂ (λ (x : Told) (y : MmioV2Device). record { told = x; device = y })
-    (f ∙ ap (λ (z : Answer). tell z.refusal 0 z.count) e
-    ∙ ap (λ (n : ℕ). tell o'.refusal n (length o'.actions)) (sym (write-mute w s k o bs)))
-    (ap (λ (z : Answer). z.device) e)
