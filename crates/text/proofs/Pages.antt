@@ -10,7 +10,7 @@ use Rattle.std.proofs.lemmas.List.{flat_map_more, take_more}
 use Rattle.words.proofs.Actions as emitted
 use borrow.Author.Tests.{le-leb}
 use Rattle.text.specs.Room.{record_room}
-use Rattle.text.specs.Page.{Prints, PrintsIf, has_room}
+use Rattle.text.specs.Page.{Prints, PrintsIf, Spare, has_room}
 use Rattle.text.specs.declared.Page.{Page}
 use Rattle.text.proofs.Pieces.{room-left}
 
@@ -46,10 +46,10 @@ each-more f {k} {i} s e h g =
     within (worded (then e g) (flat_map_more f [] (take i s) (get_or s i 0) ∙ ap (flat_map f) (sym (take_more s i 0 h)))) (omega arith)
 
 -- there is room, so the line is written
-pub roomed : {m : ℕ} {p q : Page} {w : List ℕ} (n : ℕ) → PrintsIf (has_room n p) m p w q → p.at + n ≤ length p.out.now → Prints m p w q
+pub roomed : {m : ℕ} {p q : Page} {w : List ℕ} (n : ℕ) → PrintsIf (has_room n p) m p w q → Spare n p → Prints m p w q
 roomed {p = p} n e h = rw (room-left n (length p.out.now) p.at h) at e
 
 -- the same of a record's line, with a reply that is short enough
 pub line-roomed : (k : ℕ) {m : ℕ} {p q : Page} {w : List ℕ} → PrintsIf (record_room k (length p.out.now) p.at) m p w q → k ≤ 8
-    → p.at + 64 ≤ length p.out.now → Prints m p w q
+    → Spare 64 p → Prints m p w q
 line-roomed k {p = p} e s h = rw (le-leb k 8 s, room-left 64 (length p.out.now) p.at h) at e

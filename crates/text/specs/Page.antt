@@ -5,6 +5,10 @@ use Rattle.words.specs.Pick.{pick}
 use Rattle.text.specs.Room.{room}
 use Rattle.text.specs.declared.Page.{Page}
 
+-- from its place on, so many bytes are left: what is asked of the caller of a method that doesn't test it
+abbrev pub Spare : (need : ℕ) → Page → Type 0
+Spare n p = p.at + n ≤ length p.out.now
+
 -- the bytes w, at most so many of them
 pub record Prints (most : ℕ) (old : Page) (w : List ℕ) (new : Page) : Type 0 where
   pub same : new.out.ghost_name ≡ old.out.ghost_name
@@ -16,7 +20,7 @@ pub record Prints (most : ℕ) (old : Page) (w : List ℕ) (new : Page) : Type 0
 abbrev pub PrintsIf : (told : Bool) → (most : ℕ) → Page → List ℕ → Page → Type 0
 PrintsIf told most old w new = Prints most old (pick told w []) new
 
--- from a page's place on, so many bytes are left
+-- the same, as a test
 abbrev pub has_room : (need : ℕ) → Page → Bool
 has_room n p = room n (length p.out.now) p.at
 

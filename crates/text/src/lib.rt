@@ -50,7 +50,7 @@ impl<'a> Page<'a> {
     ghost use Rattle.text.specs.Lines.{bad_line, end_line, heading_line, record_line, reply_text, row, spaced};
     ghost use Rattle.text.specs.Details.{action_line, field_line, hexes};
     ghost use Rattle.text.specs.Room.{record_room, room};
-    ghost use Rattle.text.specs.Page.{Prints, PrintsIf, PrintsLine};
+    ghost use Rattle.text.specs.Page.{Prints, PrintsIf, PrintsLine, Spare};
 
     /// The buffer from its front on.
     pub fn new(out: &'a mut [u8]) -> Page<'a>
@@ -71,7 +71,7 @@ impl<'a> Page<'a> {
     // ---- bytes
 
     fn put(&mut self, b: u8)
-        requires { self.old.at + 1 ≤ length self.old.out.now }
+        requires { Spare 1 self.old }
         ensures { Prints 1 self.old (b ∷ []) self.new }
     {
         self.out[self.at] = b;
@@ -79,7 +79,7 @@ impl<'a> Page<'a> {
     }
 
     fn put_bytes(&mut self, word: &[u8])
-        requires { self.old.at + length word.now ≤ length self.old.out.now }
+        requires { Spare (length word.now) self.old }
         ensures { Prints (length word.now) self.old word.now self.new }
     {
         let at = self.at;
@@ -91,9 +91,10 @@ impl<'a> Page<'a> {
     // ---- numbers
 
     // The digits of n to the base, which is 10 or 16: those of the quotient first, then the remainder.
-    // Kept by hand: `write!` may answer an error in place of the text, and its promise doesn't say when.
+    // By hand, though the library's `itoa` promises decimal: one function serves both bases, no call of the library's that can't fail
+    // promises hex without leading zeros, and that a numeral reads back as its number is shown of `numeral`, to any such base.
     fn put_number(&mut self, n: u64, base: u64)
-        requires { (10 ≤ base) × (base ≤ 16) × (self.old.at + length (numeral base n) ≤ length self.old.out.now) }
+        requires { (10 ≤ base) × (base ≤ 16) × Spare (length (numeral base n)) self.old }
         ensures { Prints (length (numeral base n)) self.old (numeral base n) self.new }
     {
         if n < base {
@@ -106,7 +107,7 @@ impl<'a> Page<'a> {
 
     // 20 digits hold every u64 in decimal.
     fn put_decimal(&mut self, n: u64)
-        requires { self.old.at + 20 ≤ length self.old.out.now }
+        requires { Spare 20 self.old }
         ensures { Prints 20 self.old (decimal n) self.new }
     {
         self.put_number(n, 10);
@@ -114,7 +115,7 @@ impl<'a> Page<'a> {
 
     // A space, then the number in decimal.
     fn next_decimal(&mut self, n: u64)
-        requires { self.old.at + 21 ≤ length self.old.out.now }
+        requires { Spare 21 self.old }
         ensures { Prints 21 self.old (spaced (decimal n)) self.new }
     {
         self.put(b' ');
@@ -123,7 +124,7 @@ impl<'a> Page<'a> {
 
     // A space, then the number in hex: 16 digits hold every u64.
     fn next_hex(&mut self, n: u64)
-        requires { self.old.at + 17 ≤ length self.old.out.now }
+        requires { Spare 17 self.old }
         ensures { Prints 17 self.old (spaced (hex n)) self.new }
     {
         self.put(b' ');
@@ -134,7 +135,7 @@ impl<'a> Page<'a> {
 
     // The two low digits in hex.
     fn put_pair(&mut self, v: u32)
-        requires { self.old.at + 2 ≤ length self.old.out.now }
+        requires { Spare 2 self.old }
         ensures { Prints 2 self.old (pair v) self.new }
     {
         self.put(digit(u64::from(v / 16 % 16)));
@@ -142,7 +143,7 @@ impl<'a> Page<'a> {
     }
 
     fn put_pairs(&mut self, s: &[u8])
-        requires { (length s.now ≤ 8) × (self.old.at + 16 ≤ length self.old.out.now) }
+        requires { (length s.now ≤ 8) × Spare 16 self.old }
         ensures { Prints 16 self.old (pairs s.now) self.new }
     {
         for b in s {
@@ -152,7 +153,7 @@ impl<'a> Page<'a> {
 
     // A space, then the reply's bytes, or - for none.
     fn next_reply(&mut self, s: &[u8])
-        requires { (length s.now ≤ 8) × (self.old.at + 17 ≤ length self.old.out.now) }
+        requires { (length s.now ≤ 8) × Spare 17 self.old }
         ensures { Prints 17 self.old (spaced (reply_text s.now)) self.new }
     {
         self.put(b' ');
@@ -165,7 +166,7 @@ impl<'a> Page<'a> {
 
     // A column of hex to each number.
     fn put_hexes(&mut self, ns: [u64; 5])
-        requires { self.old.at + 85 ≤ length self.old.out.now }
+        requires { Spare 85 self.old }
         ensures { Prints 85 self.old (hexes ns) self.new }
     {
         for n in ns {
@@ -174,7 +175,7 @@ impl<'a> Page<'a> {
     }
 
     fn put_newline(&mut self)
-        requires { self.old.at + 1 ≤ length self.old.out.now }
+        requires { Spare 1 self.old }
         ensures { Prints 1 self.old (10 ∷ []) self.new }
     {
         self.put(b'\n');
@@ -183,7 +184,7 @@ impl<'a> Page<'a> {
     // ---- lines where there is room
 
     fn put_line(&mut self, number: u32, status: u32, reply: &[u8], count: usize)
-        requires { (length reply.now ≤ 8) × (self.old.at + 64 ≤ length self.old.out.now) }
+        requires { (length reply.now ≤ 8) × Spare 64 self.old }
         ensures { Prints 64 self.old (record_line number status reply.now count) self.new }
     {
         self.put_decimal(u64::from(number));
@@ -196,7 +197,7 @@ impl<'a> Page<'a> {
 
     // A word of three letters, then a number.
     fn put_named(&mut self, word: &[u8; 3], n: u32)
-        requires { self.old.at + 64 ≤ length self.old.out.now }
+        requires { Spare 64 self.old }
         ensures { Prints 64 self.old (row word.now (decimal n ∷ [])) self.new }
     {
         self.put_bytes(word);
@@ -205,7 +206,7 @@ impl<'a> Page<'a> {
     }
 
     fn put_action(&mut self, x: Action)
-        requires { self.old.at + 128 ≤ length self.old.out.now }
+        requires { Spare 128 self.old }
         ensures { Prints 128 self.old (action_line x) self.new }
     {
         self.put(b' ');
@@ -214,7 +215,7 @@ impl<'a> Page<'a> {
     }
 
     fn put_fields(&mut self, f: Fields)
-        requires { self.old.at + 128 ≤ length self.old.out.now }
+        requires { Spare 128 self.old }
         ensures { Prints 128 self.old (field_line f.index f.size f.ready f.desc f.avail f.used) self.new }
     {
         self.put_bytes(b"  q");
