@@ -6,7 +6,7 @@ use native.Mathlib.Numerals.{add-one}
 use native.Mathlib.Omega.{arith}
 use borrow.Author.Tests.{le-leb}
 use lib.ListN.{length}
-use Rattle.text.specs.Page.{Prints, PrintsIf}
+use Rattle.text.specs.Page.{Prints, PrintsIf, Spare}
 use Rattle.text.specs.declared.Page.{Page}
 use Rattle.text.proofs.Pieces.{room-left}
 use Rattle.text.proofs.Pages.{still, then, worded, within}
@@ -25,10 +25,10 @@ pub line-more : (f : ℕ → List ℕ) {i : ℕ} {p q r : Page} → Prints (128 
 line-more f {i} e g = within (worded (then e g) (rows_more i f)) (omega arith)
 
 -- where there is enough room the lines are printed
-pub actions-roomed : (n w : ℕ) {m : ℕ} {p q : Page} {t : List ℕ} → PrintsIf (actions_room n w (length p.out.now) p.at) m p t q
-    → n ≤ 64 → 5 * n ≤ w → p.at + 128 * n ≤ length p.out.now → Prints m p t q
-actions-roomed n w {p = p} e a b h = rw (le-leb n 64 a, le-leb (5 * n) w b, room-left (128 * n) (length p.out.now) p.at h) at e
+pub actions-roomed : (n : ℕ) {m : ℕ} {p q : Page} {t : List ℕ} → PrintsIf (actions_room n (length p.out.now) p.at) m p t q
+    → n ≤ 64 → Spare (128 * n) p → Prints m p t q
+actions-roomed n {p = p} e a h = rw (le-leb n 64 a, room-left (128 * n) (length p.out.now) p.at h) at e
 
 pub queues-roomed : (n : ℕ) {m : ℕ} {p q : Page} {t : List ℕ} → PrintsIf (queues_room n (length p.out.now) p.at) m p t q
-    → n ≤ 16 → p.at + 128 * n ≤ length p.out.now → Prints m p t q
+    → n ≤ 16 → Spare (128 * n) p → Prints m p t q
 queues-roomed n {p = p} e a h = rw (le-leb n 16 a, room-left (128 * n) (length p.out.now) p.at h) at e

@@ -38,9 +38,9 @@ action_in w i =
 abbrev pub words_text : List ℕ → (n : ℕ) → List ℕ
 words_text w n = rows n (λ (i : ℕ). action_line (action_in w i))
 
--- they are written where n is at most 64, the lent words hold so many, and 128 bytes are left for each
-abbrev pub actions_room : (n words len at : ℕ) → Bool
-actions_room n w len at = pick (leb n 64) (pick (leb (5 * n) w) (room (128 * n) len at) false) false
+-- n records are written where n is at most 64 and 128 bytes are left for each
+abbrev pub actions_room : (n len at : ℕ) → Bool
+actions_room n len at = pick (leb n 64) (room (128 * n) len at) false
 
 -- ---- the fields of the queues
 

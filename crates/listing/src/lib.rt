@@ -3,13 +3,13 @@
 
 #![tactic(auto)]
 
-ghost use Rattle.std.specs.Prelude.{◌≡◌, ◌+◌, ◌*◌, ◌≤◌, length};
+ghost use Rattle.std.specs.Prelude.{◌≡◌, ◌*◌, ◌/◌, ◌≤◌, length};
 ghost use Rattle.virtq.specs.Fields.{field_of};
 ghost use Rattle.virtq.specs.Valid.{address};
 ghost use Rattle.virtq.specs.declared.Field.TheVariants as F;
 ghost use Rattle.text.specs.Details.{field_line};
-ghost use Rattle.text.specs.Page.{Prints, PrintsIf};
-ghost use Rattle.listing.specs.Listing.{action_in, actions_room, queues_room, queues_text, words_text};
+ghost use Rattle.text.specs.Page.{Prints, PrintsIf, Spare};
+ghost use Rattle.listing.specs.Listing.{actions_room, queues_room, queues_text, words_text};
 
 use text::{DETAIL_ROOM, Fields, Page};
 use virtq::{Field, MAX_QUEUES, Queue};
@@ -20,47 +20,35 @@ pub const MAX_ACTIONS: usize = 64;
 
 // ---- action records
 
-fn action_at(w: &[u64], i: usize) -> Action
-    requires { 5 * i + 5 ≤ length w.now }
-    ensures { result ≡ action_in w.now i }
+fn put_actions(page: &mut Page, w: &[u64])
+    requires { Spare (128 * (length w.now / 5)) page.old }
+    ensures { Prints (128 * (length w.now / 5)) page.old (words_text w.now (length w.now / 5)) page.new }
 {
-    Action {
-        kind: w[5 * i],
-        a: w[5 * i + 1],
-        b: w[5 * i + 2],
-        c: w[5 * i + 3],
-        d: w[5 * i + 4],
+    let (records, _) = w.as_chunks::<5>();
+    for &[kind, a, b, c, d] in records {
+        page.action_line(Action { kind, a, b, c, d });
     }
 }
 
-fn put_actions(page: &mut Page, w: &[u64], n: usize)
-    requires { (n ≤ 64) × (5 * n ≤ length w.now) × (page.old.at + 128 * n ≤ length page.old.out.now) }
-    ensures { Prints (128 * n) page.old (words_text w.now n) page.new }
+fn has_actions_room(page: &Page, n: usize) -> bool
+    ensures { result ≡ actions_room n (length page.now.out.now) page.now.at }
 {
-    for i in 0..n {
-        page.action_line(action_at(w, i));
-    }
+    n <= MAX_ACTIONS && page.has_room(DETAIL_ROOM * n)
 }
 
-fn has_actions_room(page: &Page, w: &[u64], n: usize) -> bool
-    ensures { result ≡ actions_room n (length w.now) (length page.now.out.now) page.now.at }
+/// The action records that the words are, five words each, a line to a record.
+pub fn actions(page: &mut Page, w: &[u64])
+    ensures { PrintsIf (actions_room (length w.now / 5) (length page.old.out.now) page.old.at) (128 * (length w.now / 5)) page.old (words_text w.now (length w.now / 5)) page.new }
 {
-    n <= MAX_ACTIONS && 5 * n <= w.len() && page.has_room(DETAIL_ROOM * n)
-}
-
-/// The first n action records of the lent words, a line each.
-pub fn actions(page: &mut Page, w: &[u64], n: usize)
-    ensures { PrintsIf (actions_room n (length w.now) (length page.old.out.now) page.old.at) (128 * n) page.old (words_text w.now n) page.new }
-{
-    if has_actions_room(page, w, n) {
-        put_actions(page, w, n);
+    if has_actions_room(page, w.len() / 5) {
+        put_actions(page, w);
     }
 }
 
 // ---- the fields of the queues
 
 fn put_queue(page: &mut Page, index: u32, q: Queue)
-    requires { page.old.at + 128 ≤ length page.old.out.now }
+    requires { Spare 128 page.old }
     ensures { Prints 128 page.old (field_line index (field_of q F.Size) (field_of q F.Ready) (address q.desclow q.deschigh) (address q.availlow q.availhigh) (address q.usedlow q.usedhigh)) page.new }
 {
     page.field_line(Fields {
@@ -73,26 +61,26 @@ fn put_queue(page: &mut Page, index: u32, q: Queue)
     });
 }
 
-fn put_queues(page: &mut Page, queues: [Queue; MAX_QUEUES], n: u32)
-    requires { (n ≤ 16) × (page.old.at + 128 * n ≤ length page.old.out.now) }
-    ensures { Prints (128 * n) page.old (queues_text queues n) page.new }
+fn put_queues(page: &mut Page, queues: &[Queue])
+    requires { (length queues.now ≤ 16) × Spare (128 * length queues.now) page.old }
+    ensures { Prints (128 * length queues.now) page.old (queues_text queues.now (length queues.now)) page.new }
 {
-    for index in 0..n {
-        put_queue(page, index, queues[index as usize]);
+    for (index, q) in queues.iter().enumerate() {
+        put_queue(page, index as u32, *q);
     }
 }
 
-fn has_queues_room(page: &Page, n: u32) -> bool
+fn has_queues_room(page: &Page, n: usize) -> bool
     ensures { result ≡ queues_room n (length page.now.out.now) page.now.at }
 {
-    n as usize <= MAX_QUEUES && page.has_room(DETAIL_ROOM * n as usize)
+    n <= MAX_QUEUES && page.has_room(DETAIL_ROOM * n)
 }
 
-/// The fields of the first n queues of the table, a line each.
-pub fn queues(page: &mut Page, queues: [Queue; MAX_QUEUES], n: u32)
-    ensures { PrintsIf (queues_room n (length page.old.out.now) page.old.at) (128 * n) page.old (queues_text queues n) page.new }
+/// The fields of the queues, from queue 0 on, a line each.
+pub fn queues(page: &mut Page, queues: &[Queue])
+    ensures { PrintsIf (queues_room (length queues.now) (length page.old.out.now) page.old.at) (128 * length queues.now) page.old (queues_text queues.now (length queues.now)) page.new }
 {
-    if has_queues_room(page, n) {
-        put_queues(page, queues, n);
+    if has_queues_room(page, queues.len()) {
+        put_queues(page, queues);
     }
 }

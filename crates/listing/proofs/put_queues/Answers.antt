@@ -6,4 +6,4 @@ pub loop-index-init : goal.loop-index-init
 loop-index-init c = line-first _ _
 
 pub loop-index-preserved : goal.loop-index-preserved
-loop-index-preserved c = line-more (queue_line c.args.queues) c.loop-index.invariant c.put_queue.ensures
+loop-index-preserved c = line-more (queue_line c.args.queues.now) c.loop-index.invariant c.put_queue.ensures
