@@ -8,37 +8,9 @@ use Rattle.mmio_config.specs.declared.Configuration.{Configuration}
 use Rattle.mmio_config.specs.declared.Region.{Region}
 use Rattle.trace.specs.Numbers.{half_at, word_at, long_at}
 use Rattle.trace.specs.Form.{form, block_place}
-use Rattle.trace.specs.declared.Window.{Window}
-use Rattle.trace.specs.declared.Traits.{Traits}
-use Rattle.trace.specs.declared.Amounts.{Amounts}
 
 abbrev pub flag_at : List ℕ → (at : ℕ) → Bool
 flag_at s at = not (eqb (word_at s at) 0)
-
-unfoldable pub window_at : List ℕ → Window
-window_at s = record { base = long_at s block_place; size = long_at s (block_place + 8); memory = long_at s (block_place + form.memory) }
-
-unfoldable pub traits_at : List ℕ → Traits
-traits_at s =
-    record {
-      kind = word_at s (block_place + 24);
-      given = flag_at s (block_place + 28);
-      features = word_at s (block_place + 32);
-      wildcard = flag_at s (block_place + 36);
-      msi = flag_at s (block_place + 40);
-      page0 = word_at s (block_place + 44);
-      page1 = word_at s (block_place + 48);
-    }
-
-unfoldable pub amounts_at : List ℕ → Amounts
-amounts_at s =
-    record {
-      vectors = word_at s (block_place + 52);
-      dataqueues = word_at s (block_place + 56);
-      control = word_at s (block_place + 60);
-      regions = word_at s (block_place + 96);
-      list = long_at s (block_place + 104);
-    }
 
 unfoldable pub sizes_at : List ℕ → List ℕ
 sizes_at s = each (λ (i x : ℕ). half_at s (block_place + 64 + 2 * i)) (replicate form.sizes 0)
@@ -52,21 +24,21 @@ regions_at s = each (λ (i : ℕ) (x : Region). share_at s i) (replicate max_reg
 unfoldable pub block_at : List ℕ → Configuration
 block_at s =
     record {
-      base = (window_at s).base;
-      size = (window_at s).size;
-      memory = (window_at s).memory;
-      kind = (traits_at s).kind;
-      given = (traits_at s).given;
-      features = (traits_at s).features;
-      wildcard = (traits_at s).wildcard;
-      msi = (traits_at s).msi;
-      page0 = (traits_at s).page0;
-      page1 = (traits_at s).page1;
-      vectors = (amounts_at s).vectors;
-      dataqueues = (amounts_at s).dataqueues;
-      control = (amounts_at s).control;
+      base = long_at s block_place;
+      size = long_at s (block_place + 8);
+      memory = long_at s (block_place + form.memory);
+      kind = word_at s (block_place + 24);
+      given = flag_at s (block_place + 28);
+      features = word_at s (block_place + 32);
+      wildcard = flag_at s (block_place + 36);
+      msi = flag_at s (block_place + 40);
+      page0 = word_at s (block_place + 44);
+      page1 = word_at s (block_place + 48);
+      vectors = word_at s (block_place + 52);
+      dataqueues = word_at s (block_place + 56);
+      control = word_at s (block_place + 60);
       sizes = sizes_at s;
-      regions = (amounts_at s).regions;
-      list = (amounts_at s).list;
+      regions = word_at s (block_place + 96);
+      list = long_at s (block_place + 104);
       table = regions_at s;
     }

@@ -1,16 +1,22 @@
 -- The verdict on any bytes (01, The trace): "Layout, then record by record (11 before 12 in each), then configuration are
 -- checked before anything runs". 0 where the trace may run. Sums are of whole numbers: none wraps.
-use Rattle.std.specs.Prelude.{Bool, false, ◌≡◌, List, ℕ, zero, suc, ◌+◌, ◌*◌, ◌<◌, eqb, leb, ltb, length, Option, Some, None, Result, Ok, Err}
+use Rattle.std.specs.Prelude.{Bool, false, ◌≡◌, List, ℕ, zero, suc, ◌+◌, ◌*◌, ◌<◌, eqb, leb, ltb, length, take, drop, Option, Some, None, Result, Ok, Err}
 use Rattle.words.specs.Pick.{pick}
 use Rattle.mmio_v2.specs.Fresh.{refusal}
 use Rattle.trace.specs.Numbers.{word_at}
 use Rattle.trace.specs.Form.{known_version, block_place, records_place, pool_place}
 use Rattle.trace.specs.Block.{block_at}
 use Rattle.trace.specs.Records.{record_at, judged}
+use Rattle.trace.specs.declared.Header.{Header}
 use Rattle.trace.specs.declared.Record.{Record}
 
 -- ---- the layout: "u32s: version 1, record count (at most 2,000), offsets 24, 264 and 264 + 24 × count, pool length up to
 -- the file's end"
+
+-- its numbers in their order
+abbrev pub header_at : List ℕ → Header
+header_at s =
+    record { version = word_at s 0; count = word_at s 4; block = word_at s 8; records = word_at s 12; pool_place = word_at s 16; pool = word_at s 20 }
 
 abbrev pub count : List ℕ → ℕ
 count s = word_at s 4
@@ -46,6 +52,10 @@ abbrev pub counted : List ℕ → ℕ
 counted s = pick (eqb (layout_of s) 0) (count s) 0
 
 -- ---- the records
+
+-- the bytes that a record names: so many from its start in the pool on, as far as they are there
+abbrev pub data_of : List ℕ → Record → List ℕ
+data_of s r = take r.len (drop (pool_place (count s) + r.start) s)
 
 abbrev pub record_of : List ℕ → (i : ℕ) → Record
 record_of s i = record_at s (records_place + 24 * i)

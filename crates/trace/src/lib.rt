@@ -3,13 +3,14 @@
 
 #![tactic(auto)]
 
-ghost use Rattle.std.specs.Prelude.{◌≡◌, ◌<◌, ◌≤◌, drop};
+ghost use Rattle.std.specs.Prelude.{◌≡◌, ◌≤◌, drop};
 ghost use Rattle.words.specs.Bytes.{read_le};
 ghost use Rattle.words.specs.Refusals.{numbered, told};
 ghost use Rattle.mmio_v2.specs.Fresh.{refusal};
-ghost use Rattle.trace.specs.Block.{amounts_at, block_at, regions_at, share_at, sizes_at, traits_at, window_at};
-ghost use Rattle.trace.specs.Records.{data_good, judged, kind_good};
-ghost use Rattle.trace.specs.Verdict.{count, counted, fits, judged_from, judged_of, laid, layout_of, next_at, record_of, verdict_of};
+ghost use Rattle.trace.specs.Block.{block_at, regions_at, share_at, sizes_at};
+ghost use Rattle.trace.specs.Form.{pool_place};
+ghost use Rattle.trace.specs.Records.{data_good, judged, kind_good, record_at};
+ghost use Rattle.trace.specs.Verdict.{count, counted, data_of, fits, header_at, judged_from, layout_of, next_at, verdict_of};
 
 use mmio_config::{Configuration, MAX_REGIONS, Region};
 use mmio_v2::MmioV2Device;
@@ -24,6 +25,13 @@ pub const MAX_RECORDS: u32 = 2000;
 
 pub const MAX_DATA: u32 = 4096;
 
+/// The kinds of record that there are. A file may have any number in their place.
+pub const READ: u32 = 1;
+
+pub const WRITE: u32 = 2;
+
+pub const RAISE: u32 = 3;
+
 /// One record: a read, a write or a raise.
 #[derive(Clone, Copy, PartialEq, Eq, Debug)]
 pub struct Record {
@@ -34,32 +42,16 @@ pub struct Record {
     pub start: u32,
 }
 
-// The block in four parts, so that no function reads more than seven numbers.
+// The numbers before the configuration block: how many records there are, where the block, the records and the pool stand, and the
+// length of the pool.
 #[derive(Clone, Copy, PartialEq, Eq, Debug)]
-struct Window {
-    base: u64,
-    size: u64,
-    memory: u64,
-}
-
-#[derive(Clone, Copy, PartialEq, Eq, Debug)]
-struct Traits {
-    kind: u32,
-    given: bool,
-    features: u32,
-    wildcard: bool,
-    msi: bool,
-    page0: u32,
-    page1: u32,
-}
-
-#[derive(Clone, Copy, PartialEq, Eq, Debug)]
-struct Amounts {
-    vectors: u32,
-    dataqueues: u32,
-    control: u32,
-    regions: u32,
-    list: u64,
+struct Header {
+    version: u32,
+    count: u32,
+    block: u32,
+    records: u32,
+    pool_place: u32,
+    pool: u32,
 }
 
 // ---- numbers, 0 past the end
@@ -70,46 +62,44 @@ fn number_at<T: LittleEndian>(s: &[u8], at: usize) -> T
     T::read(s.get(at..).unwrap_or(&[]))
 }
 
+// ---- the header
+
+fn header_at(s: &[u8]) -> Header
+    ensures { result ≡ header_at s.now }
+{
+    Header {
+        version: number_at(s, 0),
+        count: number_at(s, 4),
+        block: number_at(s, 8),
+        records: number_at(s, 12),
+        pool_place: number_at(s, 16),
+        pool: number_at(s, 20),
+    }
+}
+
+// The place of record i, or of the pool behind so many records.
+fn place_of(i: usize) -> usize
+    requires { i ≤ 4294967295 }
+    ensures { result ≡ pool_place i }
+{
+    264 + 24 * i
+}
+
+impl Header {
+    // Whether its numbers are those of a file of this length.
+    fn fits(self, long: usize) -> bool
+        ensures { result ≡ fits self.count self.block self.records self.pool_place self.pool long }
+    {
+        let end = place_of(self.count as usize);
+        self.count <= MAX_RECORDS
+            && self.block == 24
+            && self.records == 264
+            && self.pool_place as usize == end
+            && end + self.pool as usize == long
+    }
+}
+
 // ---- the configuration block
-
-#[tactic(auto, unfolding(crate::specs::Block::window_at))]
-fn window_at(s: &[u8]) -> Window
-    ensures { result ≡ window_at s.now }
-{
-    Window {
-        base: number_at(s, 24),
-        size: number_at(s, 32),
-        memory: number_at(s, 40),
-    }
-}
-
-#[tactic(auto, unfolding(crate::specs::Block::traits_at))]
-fn traits_at(s: &[u8]) -> Traits
-    ensures { result ≡ traits_at s.now }
-{
-    Traits {
-        kind: number_at(s, 48),
-        given: number_at::<u32>(s, 52) != 0,
-        features: number_at(s, 56),
-        wildcard: number_at::<u32>(s, 60) != 0,
-        msi: number_at::<u32>(s, 64) != 0,
-        page0: number_at(s, 68),
-        page1: number_at(s, 72),
-    }
-}
-
-#[tactic(auto, unfolding(crate::specs::Block::amounts_at))]
-fn amounts_at(s: &[u8]) -> Amounts
-    ensures { result ≡ amounts_at s.now }
-{
-    Amounts {
-        vectors: number_at(s, 76),
-        dataqueues: number_at(s, 80),
-        control: number_at(s, 84),
-        regions: number_at(s, 120),
-        list: number_at(s, 128),
-    }
-}
 
 fn sizes_at(s: &[u8]) -> [u16; MAX_QUEUES]
     ensures { result ≡ sizes_at s.now }
@@ -138,37 +128,34 @@ fn regions_at(s: &[u8]) -> [Region; MAX_REGIONS]
 pub fn configuration(s: &[u8]) -> Configuration
     ensures { result ≡ block_at s.now }
 {
-    let w = window_at(s);
-    let t = traits_at(s);
-    let a = amounts_at(s);
     Configuration {
-        base: w.base,
-        size: w.size,
-        memory: w.memory,
-        kind: t.kind,
-        given: t.given,
-        features: t.features,
-        wildcard: t.wildcard,
-        msi: t.msi,
-        page0: t.page0,
-        page1: t.page1,
-        vectors: a.vectors,
-        dataqueues: a.dataqueues,
-        control: a.control,
+        base: number_at(s, 24),
+        size: number_at(s, 32),
+        memory: number_at(s, 40),
+        kind: number_at(s, 48),
+        given: number_at::<u32>(s, 52) != 0,
+        features: number_at(s, 56),
+        wildcard: number_at::<u32>(s, 60) != 0,
+        msi: number_at::<u32>(s, 64) != 0,
+        page0: number_at(s, 68),
+        page1: number_at(s, 72),
+        vectors: number_at(s, 76),
+        dataqueues: number_at(s, 80),
+        control: number_at(s, 84),
         sizes: sizes_at(s),
-        regions: a.regions,
-        list: a.list,
+        regions: number_at(s, 120),
+        list: number_at(s, 128),
         table: regions_at(s),
     }
 }
 
 // ---- one record
 
-fn record_of(s: &[u8], i: usize) -> Record
-    requires { i < 2000 }
-    ensures { result ≡ record_of s.now i }
+// The record that stands at a place.
+fn record_at(s: &[u8], at: usize) -> Record
+    requires { at ≤ 65536 }
+    ensures { result ≡ record_at s.now at }
 {
-    let at = 264 + 24 * i;
     Record {
         kind: number_at(s, at),
         k: number_at(s, at + 4),
@@ -183,8 +170,8 @@ pub fn kind_good(r: Record) -> bool
     ensures { result ≡ kind_good r }
 {
     match r.kind {
-        1 | 2 => true,
-        3 => r.place < 0x1_0000_0000,
+        READ | WRITE => true,
+        RAISE => r.place < 0x1_0000_0000,
         _ => false,
     }
 }
@@ -194,8 +181,8 @@ fn data_good(r: Record, pool: u32) -> bool
 {
     r.len <= MAX_DATA
         && match r.kind {
-            1 => r.start == 0,
-            2 => u64::from(r.start) + u64::from(r.len) <= u64::from(pool),
+            READ => r.start == 0,
+            WRITE => u64::from(r.start) + u64::from(r.len) <= u64::from(pool),
             _ => r.start == 0 && r.len == 0,
         }
 }
@@ -215,23 +202,6 @@ pub fn judge(r: Record, pool: u32) -> Result<(), Refusal>
 
 // ---- the whole
 
-fn header_fits(n: u32, a: u32, b: u32, c: u32, pool: u32, long: usize) -> bool
-    ensures { result ≡ fits n a b c pool long }
-{
-    let end = 264 + 24 * n as usize;
-    n <= MAX_RECORDS && a == 24 && b == 264 && c as usize == end && end + pool as usize == long
-}
-
-fn laid(s: &[u8]) -> bool
-    ensures { result ≡ laid s.now }
-{
-    let n = number_at(s, 4);
-    let a = number_at(s, 8);
-    let b = number_at(s, 12);
-    let c = number_at(s, 16);
-    header_fits(n, a, b, c, number_at(s, 20), s.len())
-}
-
 /// What is wrong with a trace's layout: 8 to 10.
 #[tactic(auto, unfolding(crate::specs::Verdict::layout_of))]
 pub fn layout(s: &[u8]) -> Result<(), Refusal>
@@ -240,10 +210,11 @@ pub fn layout(s: &[u8]) -> Result<(), Refusal>
     if s.len() < 24 || MAX_TRACE < s.len() {
         return Err(Refusal::TraceLength);
     }
-    if number_at::<u32>(s, 0) != 1 {
+    let h = header_at(s);
+    if h.version != 1 {
         return Err(Refusal::TraceVersion);
     }
-    if !laid(s) {
+    if !h.fits(s.len()) {
         return Err(Refusal::TraceLayout);
     }
     Ok(())
@@ -252,7 +223,7 @@ pub fn layout(s: &[u8]) -> Result<(), Refusal>
 fn records(s: &[u8]) -> usize
     ensures { result ≡ count s.now }
 {
-    number_at::<u32>(s, 4) as usize
+    header_at(s).count as usize
 }
 
 /// How many records a trace has; 0 where its layout is wrong.
@@ -262,11 +233,13 @@ pub fn count(s: &[u8]) -> usize
     if layout(s).is_ok() { records(s) } else { 0 }
 }
 
-fn judge_at(s: &[u8], i: usize) -> Result<(), Refusal>
-    requires { i < 2000 }
-    ensures { told result ≡ judged_of s.now i }
+/// The bytes that a record names: so many from its start in the pool on, as far as the trace has them.
+pub fn data_of(s: &[u8], r: Record) -> &[u8]
+    ensures { result.now ≡ data_of s.now r }
 {
-    judge(record_of(s, i), number_at(s, 20))
+    let start = place_of(header_at(s).count as usize) + r.start as usize;
+    let from = s.get(start..).unwrap_or(&[]);
+    from.get(..r.len as usize).unwrap_or(from)
 }
 
 /// What stands at the place i of a trace: a record that may run, or none; or what is wrong with the layout, or with the record.
@@ -278,8 +251,9 @@ pub fn next_record(s: &[u8], i: usize) -> Result<Option<Record>, Refusal>
     if records(s) <= i {
         return Ok(None);
     }
-    judge_at(s, i)?;
-    Ok(Some(record_of(s, i)))
+    let r = record_at(s, place_of(i));
+    judge(r, header_at(s).pool)?;
+    Ok(Some(r))
 }
 
 // The records, one by one, up to the first that may not run.
@@ -287,8 +261,9 @@ fn judge_all(s: &[u8], n: usize) -> Result<(), Refusal>
     requires { n ≤ 2000 }
     ensures { told result ≡ judged_from s.now 0 n }
 {
+    let pool = header_at(s).pool;
     for i in 0..n {
-        judge_at(s, i)?;
+        judge(record_at(s, place_of(i)), pool)?;
     }
     Ok(())
 }
