@@ -2,11 +2,11 @@
 
 #![tactic(auto)]
 
-ghost use Rattle.std.specs.Prelude.{◌≡◌, true, ◌+◌, ◌*◌, ◌≤◌, length};
+ghost use Rattle.std.specs.Prelude.{◌≡◌, true, ◌*◌, ◌≤◌, length};
 ghost use Rattle.mmio_v2.specs.Operation.{Raise, Read, Write};
 ghost use Rattle.mmio_state.specs.State.{queues_in};
 ghost use Rattle.listing.specs.Listing.{words_text};
-ghost use Rattle.text.specs.Page.{Prints};
+ghost use Rattle.text.specs.Page.{Prints, Spare};
 ghost use Rattle.play.specs.Log.{may_run, operation_of};
 ghost use Rattle.play.specs.Text.{told};
 ghost use Rattle.play.specs.Play.{Ran, Runs, runs};
@@ -27,18 +27,25 @@ pub struct Show {
     pub fields: bool,
 }
 
+/// The line that a record gets: its number, and what is added to it.
+#[derive(Clone, Copy)]
+pub struct Line {
+    pub number: u32,
+    pub show: Show,
+}
+
 // The text of an answer, if these are its reply and its action words.
-fn tell(page: &mut Page, show: Show, number: u32, a: Answer, reply: &[u8], w: &[u64])
-    requires { (length reply.now ≤ 8) × (a.count ≤ 64) × (5 * a.count ≤ length w.now) × (page.old.at + 10304 ≤ length page.old.out.now) }
-    ensures { Prints 10304 page.old (told show number a.device.state.hot.status reply.now a.count (words_text w.now a.count) a.device.state.queues (queues_in a.device.state)) page.new }
+fn tell(page: &mut Page, line: Line, a: Answer, reply: &[u8], w: &[u64])
+    requires { (length reply.now ≤ 8) × (a.count ≤ 64) × (5 * a.count ≤ length w.now) × Spare 10304 page.old }
+    ensures { Prints 10304 page.old (told line.show line.number a.device.state.hot.status reply.now a.count (words_text w.now a.count) a.device.state.queues (queues_in a.device.state)) page.new }
 {
-    page.line(number, a.device.state.hot.status, reply, a.count);
-    if show.actions {
-        listing::actions(page, w, a.count);
+    page.line(line.number, a.device.state.hot.status, reply, a.count);
+    if line.show.actions {
+        listing::actions(page, &w[..5 * a.count]);
     }
-    if show.fields {
+    if line.show.fields {
         let count = mmio_tables::queues_in(a.device.state.config.count);
-        listing::queues(page, a.device.state.queues, count);
+        listing::queues(page, &a.device.state.queues[..count as usize]);
     }
 }
 
@@ -49,70 +56,47 @@ fn space<T: Copy, const N: usize>(zero: T) -> [T; N] {
     [zero; N]
 }
 
-fn run_read(
-    d: MmioV2Device,
-    page: &mut Page,
-    show: Show,
-    number: u32,
-    k: u32,
-    offset: u64,
-    len: u32,
-) -> MmioV2Device
-    requires { (len ≤ 4096) × (page.old.at + 10304 ≤ length page.old.out.now) }
-    ensures { Ran show number d.state (Read k offset len) page.old page.new result }
+fn run_read(d: MmioV2Device, page: &mut Page, line: Line, r: Record) -> MmioV2Device
+    requires { (r.len ≤ 4096) × Spare 10304 page.old }
+    ensures { Ran line.show line.number d.state (Read r.k r.place r.len) page.old page.new result }
 {
     let mut reply: [u8; MAX_DATA as usize] = space(0);
     let mut w: [u64; ACTION_WORDS] = space(0);
-    let a = d.read(k, offset, &mut reply[..len as usize], &mut w);
-    tell(page, show, number, a, &reply[..a.reply], &w);
+    let a = d.read(r.k, r.place, &mut reply[..r.len as usize], &mut w);
+    tell(page, line, a, &reply[..a.reply], &w);
     a.device
 }
 
-fn run_write(
-    d: MmioV2Device,
-    page: &mut Page,
-    show: Show,
-    number: u32,
-    k: u32,
-    offset: u64,
-    bytes: &[u8],
-) -> MmioV2Device
-    requires { page.old.at + 10304 ≤ length page.old.out.now }
-    ensures { Ran show number d.state (Write k offset bytes.now) page.old page.new result }
+fn run_write(d: MmioV2Device, page: &mut Page, line: Line, r: Record, bytes: &[u8]) -> MmioV2Device
+    requires { Spare 10304 page.old }
+    ensures { Ran line.show line.number d.state (Write r.k r.place bytes.now) page.old page.new result }
 {
     let mut w: [u64; ACTION_WORDS] = space(0);
-    let a = d.write(k, offset, bytes, &mut w);
-    tell(page, show, number, a, &[], &w);
+    let a = d.write(r.k, r.place, bytes, &mut w);
+    tell(page, line, a, &[], &w);
     a.device
 }
 
-fn run_raise(d: MmioV2Device, page: &mut Page, show: Show, number: u32, bits: u32) -> MmioV2Device
-    requires { page.old.at + 10304 ≤ length page.old.out.now }
-    ensures { Ran show number d.state (Raise bits) page.old page.new result }
+fn run_raise(d: MmioV2Device, page: &mut Page, line: Line, bits: u32) -> MmioV2Device
+    requires { Spare 10304 page.old }
+    ensures { Ran line.show line.number d.state (Raise bits) page.old page.new result }
 {
     let mut w: [u64; ACTION_WORDS] = space(0);
     let a = d.raise(bits, &mut w);
-    tell(page, show, number, a, &[], &w);
+    tell(page, line, a, &[], &w);
     a.device
 }
 
 // ---- one record
 
-fn run_kind(
-    d: MmioV2Device,
-    page: &mut Page,
-    show: Show,
-    number: u32,
-    r: Record,
-    bytes: &[u8],
-) -> MmioV2Device
-    requires { (may_run r ≡ true) × (page.old.at + 10304 ≤ length page.old.out.now) }
-    ensures { Ran show number d.state (operation_of r bytes.now) page.old page.new result }
+fn run_kind(d: MmioV2Device, page: &mut Page, line: Line, r: Record, bytes: &[u8]) -> MmioV2Device
+    requires { (may_run r ≡ true) × Spare 10304 page.old }
+    ensures { Ran line.show line.number d.state (operation_of r bytes.now) page.old page.new result }
 {
     match r.kind {
-        1 => run_read(d, page, show, number, r.k, r.place, r.len),
-        2 => run_write(d, page, show, number, r.k, r.place, bytes),
-        _ => run_raise(d, page, show, number, r.place as u32),
+        trace::READ => run_read(d, page, line, r),
+        trace::WRITE => run_write(d, page, line, r, bytes),
+        _ => run_raise(d, page, line, r.place as u32),
     }
 }
 
@@ -127,15 +111,14 @@ fn may_run(r: Record) -> bool
 pub fn run_record(
     d: MmioV2Device,
     page: &mut Page,
-    show: Show,
-    number: u32,
+    line: Line,
     r: Record,
     bytes: &[u8],
 ) -> Option<MmioV2Device>
-    ensures { Runs (runs r (length page.old.out.now) page.old.at) show number d.state (operation_of r bytes.now) page.old page.new result }
+    ensures { Runs (runs r (length page.old.out.now) page.old.at) line.show line.number d.state (operation_of r bytes.now) page.old page.new result }
 {
     if may_run(r) && page.has_room(RECORD_ROOM) {
-        Some(run_kind(d, page, show, number, r, bytes))
+        Some(run_kind(d, page, line, r, bytes))
     } else {
         None
     }

@@ -5,26 +5,26 @@ use Rattle.text.specs.Page.{PrintsIf}
 use Rattle.text.proofs.Pages.{untold, line-roomed}
 use Rattle.listing.specs.Listing.{words_text}
 use Rattle.play.proofs.Telling.{actions-told, queues-told, all_told}
-use Rattle.play.proofs.tell.Goals.{then-show, else-show}
+use Rattle.play.proofs.tell.Goals.{then-line, else-line, Joined-line}
 use Rattle.play.proofs.tell.Goals as goal
 
-pub returns-then-show-2 : goal.returns-then-show-2
-returns-then-show-2 c =
+-- the line, and then the action records if they are asked for
+acts : (c : Joined-line) → PrintsIf c.args.line.show.actions 8192 c.line.new.self (words_text c.args.w.now c.args.a.count) c.if-line.page
+acts c =
     let line = line-roomed _ c.line.ensures c.requires.0 (omega arith) in
-    let acts : PrintsIf c.args.show.actions 8192 c.line.new.self (words_text c.args.w.now c.args.a.count) c.if-show.page =
-    elim c.if-show.branch [
-      | then-show w ↦ rw w.page-is (actions-told _ w.if-show.true _ _ w.actions.ensures c.requires.1 c.requires.2 (omega arith))
-      | else-show w ↦ rw w.page-is (untold _ _ _ w.if-show.false)
-    ] in
-    let few : c.queues_in-count.result ≤ 16 = search rules in
-    all_told c.args.show _ _ _ _ _ _ _ line acts (rw c.queues_in-count.ensures at (queues-told _ c.if-show-2.true _ c.queues.ensures few (omega arith)))
+    elim c.if-line.branch [
+      | then-line w ↦ rw w.page-is (actions-told w.if-line.true c.args.w.now _ c.args.a.count (search rules) (omega arith) (omega arith) (omega arith) w.actions.ensures)
+      | else-line w ↦ rw w.page-is (untold _ _ _ w.if-line.false)
+    ]
 
-pub returns-else-show-2 : goal.returns-else-show-2
-returns-else-show-2 c =
+pub returns-then-line-2 : goal.returns-then-line-2
+returns-then-line-2 c =
     let line = line-roomed _ c.line.ensures c.requires.0 (omega arith) in
-    let acts : PrintsIf c.args.show.actions 8192 c.line.new.self (words_text c.args.w.now c.args.a.count) c.if-show.page =
-    elim c.if-show.branch [
-      | then-show w ↦ rw w.page-is (actions-told _ w.if-show.true _ _ w.actions.ensures c.requires.1 c.requires.2 (omega arith))
-      | else-show w ↦ rw w.page-is (untold _ _ _ w.if-show.false)
-    ] in
-    all_told c.args.show _ _ _ _ _ _ _ line acts (untold _ _ _ c.if-show-2.false)
+    let records = acts (goal.at.returns-then-line-2 c).Joined-line in
+    let few : c.queues_in-count.result ≤ 16 = search rules in
+    all_told c.args.line.show _ _ _ _ _ _ _ line records (rw c.queues_in-count.ensures at (queues-told c.if-line-2.true c.args.a.device.state.queues _ c.queues_in-count.result (search rules) (omega arith) few (omega arith) c.queues.ensures))
+
+pub returns-else-line-2 : goal.returns-else-line-2
+returns-else-line-2 c =
+    let line = line-roomed _ c.line.ensures c.requires.0 (omega arith) in
+    all_told c.args.line.show _ _ _ _ _ _ _ line (acts (goal.at.returns-else-line-2 c).Joined-line) (untold _ _ _ c.if-line-2.false)
