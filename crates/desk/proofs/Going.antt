@@ -22,7 +22,7 @@ use Rattle.play.specs.Log.{operation_at, log_from}
 use Rattle.play.specs.Text.{outcome_text, log_text}
 use Rattle.play.specs.Play.{Ran}
 use Rattle.play.specs.declared.Show.{Show}
-use Rattle.desk.specs.Desk.{room_before, Parted}
+use Rattle.desk.specs.Desk.{room_before}
 use Rattle.desk.specs.declared.Part.{Part}
 
 pub length-log : (s : List ℕ) (i m : ℕ) → length (log_from s i m) ≡ m
@@ -94,8 +94,3 @@ module _ {o : Show} {s : List ℕ} {d : State} {i : ℕ} {p q : Page} {u : Part}
         where
           before : (j ≡ u.next → ⊥) → j < u.next
           before z = omega arith
-
-  -- the loop has ended: there is no record more, or no room
-  pub going-last : ((u.next ≡ count s → ⊥) → has_room 10304 q ≡ false) → Parted o s d i p q u
-  going-last off =
-      record { from = g.from; upto = g.upto; state = g.state; text = g.text; had-room = g.had-room; full = λ z. here false (off z) }

@@ -1,21 +1,19 @@
--- The record at a place of a good trace may run, and a write's bytes are inside the trace.
+-- The record at a place of a good trace may run, and it is the operation there.
 use mathlib.Core.Bool.{Bool, true, false, true≢false}
 use mathlib.Core.Path.{◌≡◌, refl, ap, sym, ◌∙◌}
-use mathlib.Core.List.{List, []}
-use Prim.Native.Nat.{ℕ, ◌+◌, ◌*◌, ◌-◌, ◌≤◌, ◌<◌}
+use mathlib.Core.List.{List}
+use Prim.Native.Nat.{ℕ, ◌+◌, ◌≤◌, ◌<◌}
 use native.Mathlib.Omega.{arith}
-use borrow.Author.Tests.{eq-eqb, ne_eqb, leb-true, le-leb}
-use lib.Dec.{eqb, leb}
-use lib.ListN.{length, take, drop}
+use borrow.Author.Tests.{leb-true, le-leb}
+use lib.Dec.{leb}
 use Rattle.words.specs.Pick.{pick}
-use Rattle.trace.specs.Form.{pool_place}
 use Rattle.trace.specs.Records.{kind_good, data_good, judged}
-use Rattle.trace.specs.Verdict.{count, pool_length, record_of, Good, next_at}
+use Rattle.trace.specs.Verdict.{count, pool_length, data_of, record_of, Good, next_at}
 use Rattle.trace.specs.declared.Record.{Record}
 use Rattle.std.specs.Prelude.{Option, Some, None, Result, Ok, Err}
 use Rattle.words.specs.declared.Refusal.{Refusal}
 use Rattle.words.specs.Refusals.{numbered}
-use Rattle.trace.proofs.Judging.{laid_few, laid-whole, next_one}
+use Rattle.trace.proofs.Judging.{laid_few, next_one}
 use Rattle.play.specs.Play.{runs}
 use Rattle.play.proofs.Running.{runs-yes}
 use Rattle.play.specs.Log.{operation_of, may_run, operation_at}
@@ -33,19 +31,15 @@ module _ (r : Record) (pool : ℕ) (e : judged r pool ≡ 0) where
       go true false q = absurd (zero_one q (omega arith))
       go false u q = absurd (zero_one q (omega arith))
 
-  short : (r.len ≤ 4096) × (eqb r.kind 2 ≡ true → leb (r.start + r.len) pool ≡ true)
-  short = go (leb r.len 4096) (eqb r.kind 2) (leb (r.start + r.len) pool) _ refl both.1
+  short : r.len ≤ 4096
+  short = go (leb r.len 4096) _ refl both.1
     where
-      go : (t u v w : Bool) → leb r.len 4096 ≡ t → pick t (pick u v w) false ≡ true → (r.len ≤ 4096) × (u ≡ true → v ≡ true)
-      go true true v w q p = (leb-true r.len 4096 q, λ z. p)
-      go true false v w q p = (leb-true r.len 4096 q, λ z. absurd (true≢false (sym z)))
-      go false u v w q p = absurd (true≢false (sym p))
+      go : (t u : Bool) → leb r.len 4096 ≡ t → pick t u false ≡ true → r.len ≤ 4096
+      go true u q p = leb-true r.len 4096 q
+      go false u q p = absurd (true≢false (sym p))
 
   pub good-may : may_run r ≡ true
-  good-may = rw both.0 (le-leb r.len 4096 short.0)
-
-  pub good-within : r.kind ≡ 2 → r.start + r.len ≤ pool
-  good-within k = leb-true (r.start + r.len) pool (short.1 (eq-eqb r.kind 2 k))
+  good-may = rw both.0 (le-leb r.len 4096 short)
 
 -- ---- at a place of a good trace
 
@@ -74,34 +68,11 @@ module _ (s : List ℕ) (g : Good s) (i : ℕ) (h : i < count s) where
   pub runs-here : (r : Record) → r ≡ record_of s i → (len at : ℕ) → at + 10304 ≤ len → runs r len at ≡ true
   runs-here r e len at room = runs-yes r len at (is-good r e) room
 
-  -- a write's bytes: from its start in the pool on, and not past the end
-  pub inside : (r : Record) (n a : ℕ) → r ≡ record_of s i → n ≡ count s → r.kind ≡ 2 → a ≡ 264 + 24 * n + r.start → a + r.len ≤ length s
-  inside r n a e m k p =
-      let w = laid-whole s g.layout in
-      let f : (record_of s i).start + (record_of s i).len ≤ pool_length s = good-within (record_of s i) (pool_length s) (g.records i h) (ap (λ (x : Record). x.kind) (sym e) ∙ k) in
-      let st : r.start ≡ (record_of s i).start = ap (λ (x : Record). x.start) e in
-      let ln : r.len ≡ (record_of s i).len = ap (λ (x : Record). x.len) e in
-      omega (arith, w, f, st, ln, p, m)
-
   pub few : count s ≤ 2000
   few = laid_few s g.layout
 
 -- ---- the operation that it is
 
-no_bytes : (r : Record) (bs : List ℕ) → (r.kind ≡ 2 → ⊥) → operation_of r bs ≡ operation_of r []
-unfolding operation_of
-no_bytes r bs k = rw (ne_eqb r.kind 2 k)
-
-module _ (s : List ℕ) (i n : ℕ) (r : Record) (e : r ≡ record_of s i) (m : n ≡ count s) where
-  here : operation_at s i ≡ operation_of r (take r.len (drop (pool_place (count s) + r.start) s))
-  unfolding operation_at
-  here = ap (λ (x : Record). operation_of x (take x.len (drop (pool_place (count s) + x.start) s))) (sym e)
-
-  pub as-write : (a b : ℕ) → a ≡ 264 + 24 * n + r.start → b ≡ r.len → operation_at s i ≡ operation_of r (take (a + b - a) (drop a s))
-  as-write a b p q =
-      let z : r.len ≡ a + b - a = omega arith in
-      let y : pool_place (count s) + r.start ≡ a = omega (arith, p, m) in
-      here ∙ ap (λ (x : ℕ). operation_of r (take x (drop (pool_place (count s) + r.start) s))) z ∙ ap (λ (x : ℕ). operation_of r (take (a + b - a) (drop x s))) y
-
-  pub as-other : (r.kind ≡ 2 → ⊥) → operation_at s i ≡ operation_of r []
-  as-other k = here ∙ no_bytes r (take r.len (drop (pool_place (count s) + r.start) s)) k
+pub at-place : (s : List ℕ) (i : ℕ) (r : Record) (bs : List ℕ) → r ≡ record_of s i → bs ≡ data_of s r → operation_at s i ≡ operation_of r bs
+unfolding operation_at
+at-place s i r bs e b = ap (λ (x : Record). operation_of x (data_of s x)) (sym e) ∙ ap (operation_of r) (sym b)

@@ -2,23 +2,21 @@
 
 #![tactic(auto)]
 
-ghost use Rattle.std.specs.Prelude.{◌≡◌, ◌+◌, ◌*◌, ◌<◌, ◌≤◌, length, IfOk, IfErr};
+ghost use Rattle.std.specs.Prelude.{◌≡◌, ◌+◌, ◌*◌, ◌<◌, ◌≤◌, IfOk, IfErr};
 ghost use Rattle.words.specs.Refusals.{refusal_number};
-ghost use Rattle.mmio_state.specs.Fresh.{no_state};
 ghost use Rattle.mmio_v2.specs.Fresh.{device};
 ghost use Rattle.history.specs.Run.{run};
 ghost use Rattle.trace.specs.Block.{block_at};
-ghost use Rattle.trace.specs.Verdict.{Good, record_of, verdict_of};
-ghost use Rattle.text.specs.Page.{Prints};
-ghost use Rattle.play.specs.Log.{operation_at, operation_of, records_of};
+ghost use Rattle.trace.specs.Verdict.{Good, verdict_of};
+ghost use Rattle.text.specs.Page.{Prints, Spare};
+ghost use Rattle.play.specs.Log.{operation_at, records_of};
 ghost use Rattle.play.specs.Text.{replay_text};
 ghost use Rattle.play.specs.Play.{Ran};
 ghost use Rattle.desk.specs.Desk.{Replayed};
 
 use mmio_v2::MmioV2Device;
-use play::{RECORD_ROOM, Show};
+use play::{Line, RECORD_ROOM, Show};
 use text::Page;
-use trace::Record;
 use words::Refusal;
 
 /// Where the running of records has come to: the device, and the next record.
@@ -63,46 +61,35 @@ impl<'a> Log<'a> {
         Ok(Log { trace, count, show })
     }
 
-    // What a record writes; nothing where it is no write.
-    fn bytes_of(self, i: usize, r: Record) -> &'a [u8]
-        requires { (i < self.count) × (r ≡ record_of self.trace.now i) }
-        ensures { operation_at self.entry.trace.now i ≡ operation_of r result.now }
-    {
-        if r.kind == 2 {
-            let start = 264 + 24 * self.count + r.start as usize;
-            &self.trace[start..start + r.len as usize]
-        } else {
-            &[]
-        }
-    }
-
     // Every record of a good trace may run, so the reader finds one, and it runs.
     fn run_at(self, d: MmioV2Device, i: usize, page: &mut Page) -> MmioV2Device
-        requires { (i < self.count) × (page.old.at + 10304 ≤ length page.old.out.now) }
+        requires { (i < self.count) × Spare 10304 page.old }
         ensures { Ran self.entry.show (i + 1) d.state (operation_at self.entry.trace.now i) page.old page.new result }
     {
         let Ok(Some(r)) = reader::read_at(self.trace, i) else {
             unreachable!();
         };
-        let bytes = self.bytes_of(i, r);
-        play::run_record(d, page, self.show, (i + 1) as u32, r, bytes).unwrap()
+        let line = Line {
+            number: (i + 1) as u32,
+            show: self.show,
+        };
+        play::run_record(d, page, line, r, trace::data_of(self.trace, r)).unwrap()
     }
 
-    fn run_part(self, t: Part, page: &mut Page) -> Part
+    fn run_part(self, mut t: Part, page: &mut Page) -> Part
         requires { t.next ≤ self.count }
         ensures { Parted self.entry.show self.entry.trace.now t.device.state t.next page.old page.new result }
     {
-        let mut u = t;
-        while u.next < self.count && page.has_room(RECORD_ROOM) {
-            u.device = self.run_at(u.device, u.next, page);
-            u.next += 1;
+        while t.next < self.count && page.has_room(RECORD_ROOM) {
+            t.device = self.run_at(t.device, t.next, page);
+            t.next += 1;
         }
-        u
+        t
     }
 
     // The heading, all records, the end.
     fn run_all(self, page: &mut Page) -> MmioV2Device
-        requires { page.old.at + 128 + 10304 * self.count ≤ length page.old.out.now }
+        requires { Spare (128 + 10304 * self.count) page.old }
         ensures device { result ≡ device (run (block_at self.entry.trace.now) (records_of self.entry.trace.now)) }
         ensures text { Prints (128 + 10304 * self.entry.count) page.old (replay_text self.entry.show self.entry.trace.now) page.new }
     {
@@ -142,12 +129,6 @@ impl Part {
 
 // ---- the whole
 
-fn no_device() -> MmioV2Device
-    ensures { result ≡ device no_state }
-{
-    MmioV2Device::default()
-}
-
 /// The text of a trace at the front of the buffer, from a fresh device of its configuration. Where the buffer has less than 128
 /// bytes and `RECORD_ROOM` for each record of a good trace, nothing is written and no device is made.
 pub fn replay(s: &[u8], show: Show, out: &mut [u8]) -> Played
@@ -167,13 +148,13 @@ pub fn replay(s: &[u8], show: Show, out: &mut [u8]) -> Played
             let mut page = Page::new(out);
             page.bad(e.number());
             Played {
-                device: no_device(),
+                device: MmioV2Device::default(),
                 len: page.at,
                 whole: true,
             }
         }
         _ => Played {
-            device: no_device(),
+            device: MmioV2Device::default(),
             len: 0,
             whole: false,
         },

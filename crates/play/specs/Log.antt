@@ -1,11 +1,10 @@
 -- A trace's records as the operations of a log (01, The trace): "u32 kind (1 read, 2 write, 3 raise), u32 k, u64 offset or bits,
 -- u32 length, u32 start in pool". A log has the newest operation first.
-use Rattle.std.specs.Prelude.{Bool, false, List, [], ◌∷◌, ℕ, zero, suc, ◌+◌, eqb, leb, take, drop}
+use Rattle.std.specs.Prelude.{Bool, false, List, [], ◌∷◌, ℕ, zero, suc, ◌+◌, eqb, leb}
 use Rattle.words.specs.Pick.{pick}
 use Rattle.mmio_v2.specs.Operation.{Operation, Read, Write, Raise}
-use Rattle.trace.specs.Form.{pool_place}
 use Rattle.trace.specs.Records.{kind_good}
-use Rattle.trace.specs.Verdict.{count, record_of}
+use Rattle.trace.specs.Verdict.{count, data_of, record_of}
 use Rattle.trace.specs.declared.Record.{Record}
 
 -- the operation that a record is, if these are a write's bytes
@@ -19,12 +18,9 @@ operation_of r bs =
 abbrev pub may_run : Record → Bool
 may_run r = pick (kind_good r) (leb r.len 4096) false
 
--- a write's bytes: so many from its start in the pool on
-abbrev pub bytes_at : List ℕ → Record → List ℕ
-bytes_at s r = take r.len (drop (pool_place (count s) + r.start) s)
-
+-- the operation of a trace's record; a write's bytes are the data that the record names
 unfoldable pub operation_at : List ℕ → (i : ℕ) → Operation
-operation_at s i = operation_of (record_of s i) (bytes_at s (record_of s i))
+operation_at s i = operation_of (record_of s i) (data_of s (record_of s i))
 
 -- m records of a trace, from record i on
 unfoldable pub log_from : List ℕ → (i m : ℕ) → List Operation

@@ -1,10 +1,12 @@
-use mathlib.Core.Path.{ap}
+use mathlib.Core.Path.{◌≡◌, ap}
 use Prim.Native.Nat.{◌+◌, ◌*◌, ◌≤◌}
 use borrow.Author.Rules.{rules}
 use lib.ListN.{length}
 use native.Mathlib.Omega.{arith}
 use Rattle.words.specs.Refusals.{refusal_number}
 use Rattle.words.proofs.Refusals.{some_number}
+use Rattle.mmio_state.specs.Fresh.{no_state}
+use Rattle.mmio_v2.specs.Fresh.{device}
 use Rattle.trace.specs.Verdict.{count}
 use Rattle.desk.proofs.Whole.{replayed, bad-told, good-no-room, bad-no-room}
 use Rattle.desk.proofs.replay.Goals.{in_default-via-in-Ok+else-log-out, in_default-via-in-Err+else-out-ge128}
@@ -22,12 +24,14 @@ returns-in-Ok c =
 
 pub returns-in-Err : goal.returns-in-Err
 returns-in-Err c =
-    rw c.no_device.ensures
+    let none : c.default.result ≡ device no_state = search rules in
+    rw none
     (bad-told c.args.show c.args.s.now c.args.out.now c.new-page-in-Err.ensures.front c.new-page-in-Err.ensures.kept (search rules) (refusal_number c.in-Err.e) c.in-Err.ensures.err (some_number c.in-Err.e) c.if-out-ge128.true (rw c.number.ensures at c.bad.ensures))
 
 pub returns-in_default : goal.returns-in_default
 returns-in_default c =
-    rw c.no_device-in_default.ensures
+    let none : c.default-in_default.result ≡ device no_state = search rules in
+    rw none
     (elim c.in_default.branch [
       | in_default-via-in-Ok+else-log-out w ↦
           let ok = w.in-Ok.ensures.ok in
