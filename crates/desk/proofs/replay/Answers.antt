@@ -7,6 +7,8 @@ use Rattle.words.specs.Refusals.{refusal_number}
 use Rattle.words.proofs.Refusals.{some_number}
 use Rattle.mmio_state.specs.Fresh.{no_state}
 use Rattle.mmio_v2.specs.Fresh.{device}
+use Rattle.text.specs.Lines.{bad_line}
+use Rattle.text.specs.Page.{PrintsLine}
 use Rattle.trace.specs.Verdict.{count}
 use Rattle.desk.proofs.Whole.{replayed, bad-told, good-no-room, bad-no-room}
 use Rattle.desk.proofs.replay.Goals.{in_default-via-in-Ok+else-log-out, in_default-via-in-Err+else-out-ge128}
@@ -25,8 +27,9 @@ returns-in-Ok c =
 pub returns-in-Err : goal.returns-in-Err
 returns-in-Err c =
     let none : c.default.result ≡ device no_state = search rules in
+    let line : PrintsLine 64 c.new-page-in-Err.result (bad_line (refusal_number c.in-Err.e)) c.bad.new.self = search rules in
     rw none
-    (bad-told c.args.show c.args.s.now c.args.out.now c.new-page-in-Err.ensures.front c.new-page-in-Err.ensures.kept (search rules) (refusal_number c.in-Err.e) c.in-Err.ensures.err (some_number c.in-Err.e) c.if-out-ge128.true (rw c.number.ensures at c.bad.ensures))
+    (bad-told c.args.show c.args.s.now c.args.out.now c.new-page-in-Err.ensures.front c.new-page-in-Err.ensures.kept (search rules) (refusal_number c.in-Err.e) c.in-Err.ensures.err (some_number c.in-Err.e) c.if-out-ge128.true line)
 
 pub returns-in_default : goal.returns-in_default
 returns-in_default c =
