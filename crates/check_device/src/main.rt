@@ -14,6 +14,7 @@
 ghost use Rattle.std.specs.Prelude.{◌≤◌, ◌≡◌, length};
 
 use mmio_config::{Configuration, Region};
+use mmio_state::ACTION_WORDS;
 use mmio_tables::{HeldReply, Kind, Reply};
 use mmio_v2::{Answer, MadeDevice, MmioV2Device};
 use show::{dec, hex, say};
@@ -98,29 +99,6 @@ fn low16(n: u64) -> u16 {
     (n % 0x1_0000) as u16
 }
 
-// Two data queues of 256 with a doorbell at 0xd0000000, four vectors, no regions, memory up to 0x10000.
-fn plain() -> Configuration {
-    Configuration {
-        base: 0xd000_0000,
-        size: 0x2000,
-        memory: 0x10000,
-        kind: 1,
-        given: true,
-        features: 4,
-        wildcard: true,
-        msi: true,
-        page0: 0x11,
-        page1: 0x22,
-        vectors: 4,
-        dataqueues: 2,
-        control: 0,
-        sizes: [256u16; 16],
-        regions: 0,
-        list: 0,
-        table: [Region::default(); 8],
-    }
-}
-
 fn with_sizes(mut c: Configuration, l: Line) -> Configuration {
     c.sizes[(l.a % 16) as usize] = low16(l.b);
     c
@@ -164,7 +142,7 @@ fn configure(c: Configuration, l: Line) -> Configuration {
     match l.verb {
         b'S' => with_sizes(c, l),
         b'O' => with_region(c, l),
-        b'N' => plain(),
+        b'N' => show::PLAIN,
         _ => set(c, l),
     }
 }
@@ -205,7 +183,7 @@ fn offer(d: MmioV2Device, l: Line, bytes: &mut [u8], words: &mut [u64]) -> Answe
 }
 
 fn operate(rt: &impl Print, d: MmioV2Device, l: Line) -> io::Result<MmioV2Device> {
-    let mut words = [show::UNTOUCHED; 320];
+    let mut words = [show::UNTOUCHED; ACTION_WORDS];
     let mut bytes = filled(l);
     let a = offer(d, l, &mut bytes, &mut words);
     let u = a.device;
@@ -289,9 +267,9 @@ fn echo(rt: &impl Print, c: u8, hidden: bool) -> io::Result<()> {
 }
 
 fn run(rt: &impl Print, text: &[u8]) -> io::Result<()> {
-    let mut c = plain();
+    let mut c = show::PLAIN;
     let mut d = MmioV2Device::new(c).unwrap_or_default();
-    let mut l = empty(320);
+    let mut l = empty(ACTION_WORDS as u64);
     for &b in text {
         if b == b'\n' {
             d = perform(rt, d, c, l)?;

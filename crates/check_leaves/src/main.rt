@@ -12,7 +12,7 @@ use words::{Action, LittleEndian};
 
 fn size(rt: &impl Print, max: u16, v: u32) -> io::Result<()> {
     let q = Queue::fresh(max).update(max, Field::Size, v);
-    dec(rt, q.size as u64)
+    dec(rt, u64::from(q.size))
 }
 
 fn sizes(rt: &impl Print) -> io::Result<()> {
@@ -33,7 +33,7 @@ fn sizes(rt: &impl Print) -> io::Result<()> {
 
 fn field(rt: &impl Print, f: Field, v: u32) -> io::Result<()> {
     let q = Queue::fresh(512).update(512, f, v);
-    hex(rt, q.get(f) as u64)
+    hex(rt, u64::from(q.get(f)))
 }
 
 fn fields(rt: &impl Print) -> io::Result<()> {
@@ -95,14 +95,13 @@ fn valid(rt: &impl Print, used: u32) -> io::Result<()> {
     flag(rt, laid_out(used).valid(Memory { length: 0x4000 }))
 }
 
-// Sixteen valid queues but for the two that are named.
-fn scan(rt: &impl Print, first: usize, second: usize, n: usize) -> io::Result<()> {
+// Sixteen valid queues but for those at the places that are named.
+fn scan(rt: &impl Print, bad: &[(usize, Queue)], n: usize) -> io::Result<()> {
     let mut queues = [laid_out(0x37fa); 16];
-    if first < 16 {
-        queues[first] = laid_out(0x3800);
-    }
-    if second < 16 {
-        queues[second] = Queue::fresh(256);
+    for &(place, queue) in bad {
+        if let Some(q) = queues.get_mut(place) {
+            *q = queue;
+        }
     }
     match virtq::first_invalid(queues, n, Memory { length: 0x4000 }) {
         None => say(rt, b" none"),
@@ -122,13 +121,15 @@ fn scans(rt: &impl Print) -> io::Result<()> {
         rt,
         b"\nall 16 valid, 17 asked for; 15 invalid, left out; 15 and 3; 15 and 0; of no queue:",
     )?;
-    scan(rt, 16, 16, 16)?;
-    scan(rt, 16, 16, 17)?;
-    scan(rt, 15, 16, 16)?;
-    scan(rt, 15, 16, 15)?;
-    scan(rt, 15, 3, 16)?;
-    scan(rt, 15, 0, 16)?;
-    scan(rt, 15, 0, 0)
+    let long = laid_out(0x3800);
+    let fresh = Queue::fresh(256);
+    scan(rt, &[], 16)?;
+    scan(rt, &[], 17)?;
+    scan(rt, &[(15, long)], 16)?;
+    scan(rt, &[(15, long)], 15)?;
+    scan(rt, &[(15, long), (3, fresh)], 16)?;
+    scan(rt, &[(15, long), (0, fresh)], 16)?;
+    scan(rt, &[(15, long), (0, fresh)], 0)
 }
 
 fn vector(rt: &impl Print, q: u32) -> io::Result<()> {
@@ -144,8 +145,8 @@ fn indices(rt: &impl Print) -> io::Result<()> {
 
 fn region(rt: &impl Print, offset: u64, list: u64) -> io::Result<()> {
     let base = dragonball::shm_base(offset, list);
-    hex(rt, dragonball::low_word(base) as u64)?;
-    hex(rt, dragonball::high_word(base) as u64)
+    hex(rt, u64::from(dragonball::low_word(base)))?;
+    hex(rt, u64::from(dragonball::high_word(base)))
 }
 
 fn regions(rt: &impl Print) -> io::Result<()> {
@@ -157,10 +158,17 @@ fn regions(rt: &impl Print) -> io::Result<()> {
     region(rt, 0x1234_0000, 0x5_0000_5678)
 }
 
-fn vendor(rt: &impl Print, msi: bool, features: Option<u32>, wildcard: bool) -> io::Result<()> {
+fn vendor(
+    rt: &impl Print,
+    msi: bool,
+    given: bool,
+    features: u32,
+    wildcard: bool,
+) -> io::Result<()> {
+    let features = given.then_some(features);
     hex(
         rt,
-        dragonball::device_vendor(msi, features, wildcard) as u64,
+        u64::from(dragonball::device_vendor(msi, features, wildcard)),
     )?;
     flag(rt, dragonball::doorbell_enabled(features, wildcard))
 }
@@ -170,17 +178,17 @@ fn vendors(rt: &impl Print) -> io::Result<()> {
         rt,
         b"\nvendor and doorbell, nothing given; MSI; features 0x1ff with wildcard, without; MSI and bit 1; 0xfb:",
     )?;
-    vendor(rt, false, None, true)?;
-    vendor(rt, true, None, false)?;
-    vendor(rt, false, Some(0x1ff), true)?;
-    vendor(rt, false, Some(0x1ff), false)?;
-    vendor(rt, true, Some(2), false)?;
-    vendor(rt, false, Some(0xfb), true)
+    vendor(rt, false, false, 0xffff_ffff, true)?;
+    vendor(rt, true, false, 0, false)?;
+    vendor(rt, false, true, 0x1ff, true)?;
+    vendor(rt, false, true, 0x1ff, false)?;
+    vendor(rt, true, true, 2, false)?;
+    vendor(rt, false, true, 0xfb, true)
 }
 
 fn doorbell(rt: &impl Print, offset: u32, scale: u32, q: u32) -> io::Result<()> {
     let d = DoorBell::new(offset, scale);
-    hex(rt, d.register_data() as u64)?;
+    hex(rt, u64::from(d.register_data()))?;
     hex(rt, d.queue_offset(QueueIndex(q)))
 }
 
@@ -196,15 +204,15 @@ fn doorbells(rt: &impl Print) -> io::Result<()> {
 
 fn command(rt: &impl Print, v: u16) -> io::Result<()> {
     let m = dragonball::msi_command(v);
-    hex(rt, m.code as u64)?;
-    dec(rt, m.argument as u64)
+    hex(rt, u64::from(m.code))?;
+    dec(rt, u64::from(m.argument))
 }
 
 fn message(rt: &impl Print, m: Msi) -> io::Result<()> {
-    dec(rt, m.index_select as u64)?;
-    dec(rt, m.address_low as u64)?;
-    dec(rt, m.address_high as u64)?;
-    dec(rt, m.data as u64)
+    dec(rt, u64::from(m.index_select))?;
+    dec(rt, u64::from(m.address_low))?;
+    dec(rt, u64::from(m.address_high))?;
+    dec(rt, u64::from(m.data))
 }
 
 fn messages(rt: &impl Print) -> io::Result<()> {
@@ -354,8 +362,8 @@ fn bytes(rt: &impl Print) -> io::Result<()> {
     let mut b = [0xeeu8; 9];
     0x1122_3344_5566_7788u64.write(&mut b);
     hex(rt, u64::read(&b))?;
-    hex(rt, u32::read(&b) as u64)?;
-    hex(rt, u16::read(&b) as u64)?;
+    hex(rt, u64::from(u32::read(&b)))?;
+    hex(rt, u64::from(u16::read(&b)))?;
     hex(rt, u64::from(b[8]))?;
     0x0102_0304u32.write(&mut b);
     0xabcdu16.write(&mut b);
@@ -366,19 +374,19 @@ fn short_reads(rt: &impl Print) -> io::Result<()> {
     say(rt, b"\n7 bytes read as 8, 3 as 4, 1 as 2, none as 2:")?;
     let b = [1u8, 2, 3, 4, 5, 6, 7, 8];
     hex(rt, u64::read(&b[1..]))?;
-    hex(rt, u32::read(&b[5..]) as u64)?;
-    hex(rt, u16::read(&b[7..]) as u64)?;
-    hex(rt, u16::read(&b[8..]) as u64)
+    hex(rt, u64::from(u32::read(&b[5..])))?;
+    hex(rt, u64::from(u16::read(&b[7..])))?;
+    hex(rt, u64::from(u16::read(&b[8..])))
 }
 
 fn short_writes(rt: &impl Print) -> io::Result<()> {
     say(rt, b"\n8 bytes written to 7, 4 to 3, 2 to 1:")?;
     let mut seven = [0x11u8; 7];
     0xffff_ffff_ffff_ffffu64.write(&mut seven);
-    hex(rt, u32::read(&seven) as u64)?;
+    hex(rt, u64::from(u32::read(&seven)))?;
     let mut three = [0x11u8; 3];
     0xffff_ffffu32.write(&mut three);
-    hex(rt, u16::read(&three) as u64)?;
+    hex(rt, u64::from(u16::read(&three)))?;
     let mut one = [0x11u8; 1];
     0xffffu16.write(&mut one);
     hex(rt, u64::from(one[0]))

@@ -2,34 +2,19 @@
 //! as their kind and four operands in hex; it is held to the file `stdout`.
 #![tactic(auto)]
 
-use mmio_config::{Configuration, Region};
-use mmio_state::{Done, MmioV2DeviceState};
+use mmio_config::Configuration;
+use mmio_state::{ACTION_WORDS, Done, MmioV2DeviceState};
 use mmio_tables::Kind;
-use show::{dec, flag, hex, records, say};
+use show::{UNTOUCHED, dec, flag, hex, records, say};
 use std::io;
 use virtq::{Field, Queue, QueueIndex};
 use words::Refusal;
 
-// Some data queues of 256 with a doorbell, four vectors, no regions, memory up to 0x10000.
 fn configuration(dataqueues: u32, control: u32) -> Configuration {
     Configuration {
-        base: 0xd000_0000,
-        size: 0x2000,
-        memory: 0x10000,
-        kind: 1,
-        given: true,
-        features: 4,
-        wildcard: true,
-        msi: true,
-        page0: 0x11,
-        page1: 0x22,
-        vectors: 4,
         dataqueues,
         control,
-        sizes: [256u16; 16],
-        regions: 0,
-        list: 0,
-        table: [Region::default(); 8],
+        ..show::PLAIN
     }
 }
 
@@ -47,10 +32,10 @@ fn fresh(dataqueues: u32, control: u32) -> MmioV2DeviceState {
 
 // A fresh state whose queues are all laid out.
 fn laid_out(dataqueues: u32) -> MmioV2DeviceState {
-    let queues = [ready(); 16];
-    let mut s = fresh(dataqueues, 0);
-    s.queues = queues;
-    s
+    MmioV2DeviceState {
+        queues: [ready(); 16],
+        ..fresh(dataqueues, 0)
+    }
 }
 
 fn stands(rt: &impl Print, s: MmioV2DeviceState, q: u32) -> io::Result<()> {
@@ -67,11 +52,7 @@ fn refusal(came: Result<Done, Refusal>) -> u64 {
 
 // What came of an operation; a refusal leaves the state.
 fn done(s: MmioV2DeviceState, came: Result<Done, Refusal>) -> Done {
-    came.unwrap_or(Done {
-        state: s,
-        ok: false,
-        count: 0,
-    })
+    came.unwrap_or(mmio_state::quiet_done(s, false))
 }
 
 fn outcome(rt: &impl Print, refused: u64, d: Done) -> io::Result<()> {
@@ -92,7 +73,7 @@ fn outcome(rt: &impl Print, refused: u64, d: Done) -> io::Result<()> {
 
 fn start(rt: &impl Print, label: &[u8], s: MmioV2DeviceState, k: u32) -> io::Result<()> {
     say(rt, label)?;
-    let mut words = [0xeu64; 320];
+    let mut words = [UNTOUCHED; ACTION_WORDS];
     let came = s.activate(k, &mut words);
     let d = done(s, came);
     records(rt, &words, d.count)?;
@@ -104,7 +85,7 @@ fn short_space(rt: &impl Print) -> io::Result<()> {
         rt,
         b"\n319 words: refusal of activate, reset, message command, control; the first word after:",
     )?;
-    let mut words = [0xeu64; 319];
+    let mut words = [UNTOUCHED; ACTION_WORDS - 1];
     let s = laid_out(2);
     dec(rt, refusal(s.activate(9, &mut words)))?;
     dec(rt, refusal(s.reset(9, &mut words)))?;
@@ -117,18 +98,18 @@ fn short_space(rt: &impl Print) -> io::Result<()> {
 
 // A command to a device of two data queues, with MSI on or off and started or not; what it asks, and what comes of it.
 fn command(rt: &impl Print, s: MmioV2DeviceState, v: u16, k: u32) -> io::Result<()> {
-    let mut words = [0xeu64; 320];
+    let mut words = [UNTOUCHED; ACTION_WORDS];
     let d = done(s, mmio_msi::handle_msi_cmd(s, v, k, &mut words));
     let u = d.state;
     dec(rt, d.count as u64)?;
     hex(rt, words[0])?;
-    dec(rt, u.stage.index_select as u64)?;
-    hex(rt, u.hot.status as u64)
+    dec(rt, u64::from(u.stage.index_select))?;
+    hex(rt, u64::from(u.hot.status))
 }
 
 // MSI turned on with one answer, and a message staged.
 fn messaging(rt: &impl Print, s: MmioV2DeviceState) -> io::Result<MmioV2DeviceState> {
-    let mut words = [0xeu64; 320];
+    let mut words = [UNTOUCHED; ACTION_WORDS];
     let d = done(s, mmio_msi::update_msi_enable(s, 0x8000, 1, &mut words));
     hex(rt, words[1])?;
     Ok(mmio_msi::set_msi_data(d.state, 7))
@@ -139,7 +120,7 @@ fn running_commands(rt: &impl Print) -> io::Result<()> {
         rt,
         b"\nstarted: mode asked; 0x1002, refused; mask 3, refused; mask 4; unmask 3:",
     )?;
-    let mut words = [0xeu64; 320];
+    let mut words = [UNTOUCHED; ACTION_WORDS];
     let on = messaging(rt, laid_out(2))?;
     let s = done(on, on.activate(9, &mut words)).state;
     command(rt, s, 0x1002, 1)?;
@@ -152,27 +133,26 @@ fn running_commands(rt: &impl Print) -> io::Result<()> {
 
 // The data stored in vector i once the command was written.
 fn stored(rt: &impl Print, s: MmioV2DeviceState, v: u16, i: usize) -> io::Result<()> {
-    let mut words = [0xeu64; 320];
+    let mut words = [UNTOUCHED; ACTION_WORDS];
     let u = done(s, mmio_msi::handle_msi_cmd(s, v, 9, &mut words)).state;
-    if i < 32 {
-        let vector = u.vectors[i];
-        hex(rt, vector.message as u64)?;
+    match u.vectors.get(i) {
+        Some(vector) => hex(rt, u64::from(vector.message)),
+        None => Ok(()),
     }
-    Ok(())
 }
 
 fn messages(rt: &impl Print, s: MmioV2DeviceState) -> io::Result<()> {
     let vector = s.vectors[2];
-    hex(rt, vector.message as u64)?;
-    hex(rt, s.stage.data as u64)?;
-    dec(rt, s.stage.index_select as u64)?;
+    hex(rt, u64::from(vector.message))?;
+    hex(rt, u64::from(s.stage.data))?;
+    dec(rt, u64::from(s.stage.index_select))?;
     flag(rt, s.hot.msi)?;
-    hex(rt, s.hot.status as u64)
+    hex(rt, u64::from(s.hot.status))
 }
 
 // MSI turned off with k answers once vector 2 has a message.
 fn turned_off(rt: &impl Print, s: MmioV2DeviceState, k: u32) -> io::Result<()> {
-    let mut words = [0xeu64; 320];
+    let mut words = [UNTOUCHED; ACTION_WORDS];
     let on = done(s, mmio_msi::handle_msi_cmd(s, 0x1002, 9, &mut words)).state;
     let off = done(on, mmio_msi::update_msi_enable(on, 0x7fff, k, &mut words)).state;
     messages(rt, off)

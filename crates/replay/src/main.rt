@@ -130,33 +130,21 @@ fn refuse_option(err: &impl Print, word: &[u8]) {
 }
 
 // One argument: an option changes what is shown, a file is shown.
-fn argument(rt: &(impl Print + Files), err: &impl Print, word: &[u8], w: Wanted) -> Wanted {
-    let Wanted { show, named } = w;
+fn argument(rt: &(impl Print + Files), err: &impl Print, word: &[u8], mut w: Wanted) -> Wanted {
     match word {
-        b"-a" => Wanted {
-            show: Show {
-                actions: true,
-                ..show
-            },
-            named,
-        },
-        b"-f" => Wanted {
-            show: Show {
-                fields: true,
-                ..show
-            },
-            named,
-        },
+        b"-a" => w.show.actions = true,
+        b"-f" => w.show.fields = true,
         [b'-', _, ..] => {
             refuse_option(err, word);
             // Whoever mistyped an option is not left waiting for standard input.
-            Wanted { show, named: true }
+            w.named = true;
         }
         _ => {
-            show_file(rt, err, word, show);
-            Wanted { show, named: true }
+            show_file(rt, err, word, w.show);
+            w.named = true;
         }
     }
+    w
 }
 
 // More than any path has.

@@ -1,15 +1,42 @@
 //! What the programs that are held to a file `stdout` read and print with: a whole input, labels, numbers after a space, and
-//! action records. A write that fails is answered as the error that it was.
+//! action records; and the configuration that they begin with. A write that fails is answered as the error that it was.
 #![tactic(auto)]
 
-ghost use Rattle.std.specs.Prelude.{◌≤◌, length};
+ghost use Rattle.std.specs.Prelude.{◌≡◌, ◌≤◌, length};
 
+use mmio_config::{Configuration, Region};
 use std::io;
 use std::io::Read;
 
+/// The configuration that the programs begin with: two data queues of 256 with a doorbell at 0xd0000000, four vectors, no regions,
+/// memory up to 0x10000.
+pub const PLAIN: Configuration = Configuration {
+    base: 0xd000_0000,
+    size: 0x2000,
+    memory: 0x10000,
+    kind: 1,
+    given: true,
+    features: 4,
+    wildcard: true,
+    msi: true,
+    page0: 0x11,
+    page1: 0x22,
+    vectors: 4,
+    dataqueues: 2,
+    control: 0,
+    sizes: [256; 16],
+    regions: 0,
+    list: 0,
+    table: [Region {
+        offset: 0,
+        length: 0,
+    }; 8],
+};
+
 /// Reads until the space is full, the input ends or a read fails, and answers how many bytes stand at its start.
 pub fn read_full(from: &mut impl Read, space: &mut [u8]) -> usize
-    ensures { result ≤ length space.new }
+    ensures within { result ≤ length space.new }
+    ensures long { length space.new ≡ length space.old }
 {
     let mut done = 0;
     while done < space.len() {
