@@ -135,9 +135,10 @@ fn start_state(mut s: MmioV2DeviceState, held: [Held; MAX_QUEUES]) -> MmioV2Devi
 fn wipe_state(s: MmioV2DeviceState, held: [Held; MAX_QUEUES]) -> MmioV2DeviceState
     ensures { result ≡ wiped s held }
 {
-    let mut u = begun(s.hot.wiped(), s.config);
-    u.held = held;
-    u
+    MmioV2DeviceState {
+        held,
+        ..begun(s.hot.wiped(), s.config)
+    }
 }
 
 fn settle(s: MmioV2DeviceState, held: [Held; MAX_QUEUES], ok: bool) -> MmioV2DeviceState

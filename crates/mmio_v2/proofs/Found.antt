@@ -16,7 +16,7 @@ use Rattle.registers.specs.declared.ReadRegister.TheVariants as R
 use Rattle.mmio_state.specs.State.{State}
 use Rattle.mmio_access.specs.Shown.{doorbell_word}
 use Rattle.mmio_v2.specs.Operation.{Read}
-use Rattle.mmio_v2.specs.Registers.{shows, word_if, bytes_shown, fits_reply}
+use Rattle.mmio_v2.specs.Registers.{shows, word_if, bytes_shown, fits_reply, read_asks}
 use Rattle.mmio_v2.specs.Step.{operated}
 use Rattle.mmio_v2.specs.declared.Shown.{Shown}
 use Rattle.mmio_v2.specs.declared.Shown.TheVariants.{Word, Half, Nothing}
@@ -62,3 +62,15 @@ module _ (s : State) where
 
   pub reply-short : (k o l : ℕ) → (length (operated s (Read k o l)).reply ≤ 4) × (length (operated s (Read k o l)).reply ≤ l)
   reply-short k o l = fitting (shows s (read_at o l)) l (shown-fits o l)
+
+  -- only the configuration asks
+  abbrev Silent : ReadRegister → ℕ → Type 0
+  Silent r l = read_asks s r l ≡ []
+
+  silent-rows : Each Silent read_rows
+  silent-rows =
+      more refl (more refl (more refl (more refl (more refl (more refl (more refl (more refl
+      (more refl (more refl (more refl (more refl (more refl (more refl (more refl (more refl none)))))))))))))))
+
+  pub asks_nothing : (o l : ℕ) → leb 0x100 o ≡ false → read_asks s (read_at o l) l ≡ []
+  asks_nothing o l e = rw e (found Silent R.Unknown read_rows (λ m. refl) silent-rows o l)

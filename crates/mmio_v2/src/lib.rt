@@ -19,10 +19,13 @@ ghost use Rattle.mmio_v2.specs.Registers.{bytes_shown, does, fits_reply, reading
 ghost use Rattle.mmio_v2.specs.Operation.{Raise, Read, Write};
 ghost use Rattle.mmio_v2.specs.Step.{answer_of, counted_of, of_done, refused_as, replied, step};
 
+use dragonball::DRAGONBALL_MMIO_DOORBELL_SIZE;
 use mmio_config::Configuration;
 use mmio_state::{Done, MmioV2DeviceState};
 use mmio_tables::{Kind, Standing};
-use registers::{MMIO_MAGIC_VALUE, MMIO_VERSION_2, ReadRegister, WriteRegister};
+use registers::{
+    MMIO_DEFAULT_CFG_SIZE, MMIO_MAGIC_VALUE, MMIO_VERSION_2, ReadRegister, WriteRegister,
+};
 use virtq::{Field, QueueIndex};
 use words::{LittleEndian, Refusal};
 
@@ -216,7 +219,7 @@ impl MmioV2Device {
     pub fn new(c: Configuration) -> Result<Self, Refusal>
         ensures { result ≡ new_device c }
     {
-        if c.size != 0x2000 {
+        if c.size != MMIO_DEFAULT_CFG_SIZE + DRAGONBALL_MMIO_DOORBELL_SIZE {
             return Err(Refusal::WindowSize);
         }
         let state = MmioV2DeviceState::new(c)?;
