@@ -13,7 +13,7 @@ use Rattle.trace.specs.declared.Record.{Record}
 use Rattle.std.specs.Prelude.{Option, Some, None, Result, Ok, Err}
 use Rattle.words.specs.declared.Refusal.{Refusal}
 use Rattle.words.specs.Refusals.{numbered}
-use Rattle.trace.proofs.Judging.{laid_few, next_one}
+use Rattle.trace.proofs.Judging.{next_one}
 use Rattle.play.specs.Play.{runs}
 use Rattle.play.proofs.Running.{runs-yes}
 use Rattle.play.specs.Log.{operation_of, may_run, operation_at}
@@ -67,9 +67,6 @@ module _ (s : List ℕ) (g : Good s) (i : ℕ) (h : i < count s) where
   -- where there is room for it, it runs
   pub runs-here : (r : Record) → r ≡ record_of s i → (len at : ℕ) → at + 10304 ≤ len → runs r len at ≡ true
   runs-here r e len at room = runs-yes r len at (is-good r e) room
-
-  pub few : count s ≤ 2000
-  few = laid_few s g.layout
 
 -- ---- the operation that it is
 
