@@ -15,6 +15,10 @@ unfoldable pub rows : (n : ℕ) → (f : ℕ → List ℕ) → List ℕ
 rows zero f = []
 rows (suc n) f = rows n f ++ f n
 
+-- n lines are written where n is at most the most that there are, and 128 bytes are left for each
+abbrev pub lines_room : (most n len at : ℕ) → Bool
+lines_room most n len at = pick (leb n most) (room (128 * n) len at) false
+
 -- ---- action records
 
 abbrev pub no_action : Action
@@ -40,7 +44,7 @@ words_text w n = rows n (λ (i : ℕ). action_line (action_in w i))
 
 -- n records are written where n is at most 64 and 128 bytes are left for each
 abbrev pub actions_room : (n len at : ℕ) → Bool
-actions_room n len at = pick (leb n 64) (room (128 * n) len at) false
+actions_room n len at = lines_room 64 n len at
 
 -- ---- the fields of the queues
 
@@ -57,4 +61,4 @@ queues_text qs n = rows n (queue_line qs)
 
 -- they are written where n is at most 16 and 128 bytes are left for each
 abbrev pub queues_room : (n len at : ℕ) → Bool
-queues_room n len at = pick (leb n 16) (room (128 * n) len at) false
+queues_room n len at = lines_room 16 n len at

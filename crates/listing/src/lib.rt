@@ -9,7 +9,7 @@ ghost use Rattle.virtq.specs.Valid.{address};
 ghost use Rattle.virtq.specs.declared.Field.TheVariants as F;
 ghost use Rattle.text.specs.Details.{field_line};
 ghost use Rattle.text.specs.Page.{Prints, PrintsIf, Spare};
-ghost use Rattle.listing.specs.Listing.{actions_room, queues_room, queues_text, words_text};
+ghost use Rattle.listing.specs.Listing.{actions_room, lines_room, queues_room, queues_text, words_text};
 
 use text::{DETAIL_ROOM, Fields, Page};
 use virtq::{Field, MAX_QUEUES, Queue};
@@ -17,6 +17,14 @@ use words::Action;
 
 /// The most action records that are listed: the most that an operation asks.
 pub const MAX_ACTIONS: usize = 64;
+
+// Whether there is room for so many lines, which are no more than the most that there are.
+fn has_lines_room(page: &Page, n: usize, most: usize) -> bool
+    requires { most ≤ 64 }
+    ensures { result ≡ lines_room most n (length page.now.out.now) page.now.at }
+{
+    n <= most && page.has_room(DETAIL_ROOM * n)
+}
 
 // ---- action records
 
@@ -30,17 +38,11 @@ fn put_actions(page: &mut Page, w: &[u64])
     }
 }
 
-fn has_actions_room(page: &Page, n: usize) -> bool
-    ensures { result ≡ actions_room n (length page.now.out.now) page.now.at }
-{
-    n <= MAX_ACTIONS && page.has_room(DETAIL_ROOM * n)
-}
-
 /// The action records that the words are, five words each, a line to a record.
 pub fn actions(page: &mut Page, w: &[u64])
     ensures { PrintsIf (actions_room (length w.now / 5) (length page.old.out.now) page.old.at) (128 * (length w.now / 5)) page.old (words_text w.now (length w.now / 5)) page.new }
 {
-    if has_actions_room(page, w.len() / 5) {
+    if has_lines_room(page, w.len() / 5, MAX_ACTIONS) {
         put_actions(page, w);
     }
 }
@@ -70,17 +72,11 @@ fn put_queues(page: &mut Page, queues: &[Queue])
     }
 }
 
-fn has_queues_room(page: &Page, n: usize) -> bool
-    ensures { result ≡ queues_room n (length page.now.out.now) page.now.at }
-{
-    n <= MAX_QUEUES && page.has_room(DETAIL_ROOM * n)
-}
-
 /// The fields of the queues, from queue 0 on, a line each.
 pub fn queues(page: &mut Page, queues: &[Queue])
     ensures { PrintsIf (queues_room (length queues.now) (length page.old.out.now) page.old.at) (128 * length queues.now) page.old (queues_text queues.now (length queues.now)) page.new }
 {
-    if has_queues_room(page, queues.len()) {
+    if has_lines_room(page, queues.len(), MAX_QUEUES) {
         put_queues(page, queues);
     }
 }
