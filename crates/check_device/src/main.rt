@@ -19,6 +19,7 @@ use mmio_tables::{HeldReply, Kind, Reply};
 use mmio_v2::{Answer, MadeDevice, MmioV2Device};
 use show::{dec, hex, say};
 use std::io;
+use std::io::Read;
 use tape::Entry;
 use virtq::QueueIndex;
 use words::LittleEndian;
@@ -286,8 +287,23 @@ fn run(rt: &impl Print, text: &[u8]) -> io::Result<()> {
 // The most that is read of a script.
 const SCRIPT_ROOM: usize = 65536;
 
+// Reads until the space is full, the input ends or a read fails, and answers how many bytes stand at its start.
+fn read_full(from: &mut impl Read, space: &mut [u8]) -> usize
+    ensures within { result ≤ length space.new }
+    ensures long { length space.new ≡ length space.old }
+{
+    let mut done = 0;
+    while done < space.len() {
+        match from.read(&mut space[done..]) {
+            Ok(n) if 0 < n => done += n,
+            _ => break,
+        }
+    }
+    done
+}
+
 fn main(rt: HostRuntime) -> io::Result<()> {
     let mut space = [0u8; SCRIPT_ROOM];
-    let n = show::read_full(&mut rt.stdin(), &mut space);
+    let n = read_full(&mut rt.stdin(), &mut space);
     run(&rt, &space[..n])
 }

@@ -3,6 +3,8 @@
 //! standard error, and the files after it are still shown; where that can't be written either, nothing is left to tell it on.
 #![tactic(auto)]
 
+ghost use Rattle.std.specs.Prelude.{◌≡◌, ◌≤◌, length};
+
 use desk::Part;
 use play::Show;
 use std::env::FillError;
@@ -92,6 +94,21 @@ fn show_trace(rt: &impl Print, err: &impl Print, s: &[u8], show: Show) {
     }
 }
 
+// Reads until the space is full, the input ends or a read fails, and answers how many bytes stand at its start.
+fn read_full(from: &mut impl Read, space: &mut [u8]) -> usize
+    ensures within { result ≤ length space.new }
+    ensures long { length space.new ≡ length space.old }
+{
+    let mut done = 0;
+    while done < space.len() {
+        match from.read(&mut space[done..]) {
+            Ok(n) if 0 < n => done += n,
+            _ => break,
+        }
+    }
+    done
+}
+
 // A read of no bytes fails for a folder, and for a file that can't be read.
 fn readable(from: &mut impl Read) -> io::Result<()> {
     from.read(&mut [])?;
@@ -104,7 +121,7 @@ fn show_input(rt: &impl Print, err: &impl Print, from: &mut impl Read, name: &[u
         return;
     }
     let mut s = trace_space();
-    let n = show::read_full(from, &mut s);
+    let n = read_full(from, &mut s);
     show_trace(rt, err, &s[..n], show);
 }
 

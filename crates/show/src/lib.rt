@@ -1,12 +1,9 @@
-//! What the programs that are held to a file `stdout` read and print with: a whole input, labels, numbers after a space, and
-//! action records; and the configuration that they begin with. A write that fails is answered as the error that it was.
+//! What the programs that are held to a file `stdout` print with: labels, numbers after a space, and action records; and the
+//! configuration that they begin with. A write that fails is answered as the error that it was.
 #![tactic(auto)]
-
-ghost use Rattle.std.specs.Prelude.{◌≡◌, ◌≤◌, length};
 
 use mmio_config::{Configuration, Region};
 use std::io;
-use std::io::Read;
 
 /// The configuration that the programs begin with: two data queues of 256 with a doorbell at 0xd0000000, four vectors, no regions,
 /// memory up to 0x10000.
@@ -32,21 +29,6 @@ pub const PLAIN: Configuration = Configuration {
         length: 0,
     }; 8],
 };
-
-/// Reads until the space is full, the input ends or a read fails, and answers how many bytes stand at its start.
-pub fn read_full(from: &mut impl Read, space: &mut [u8]) -> usize
-    ensures within { result ≤ length space.new }
-    ensures long { length space.new ≡ length space.old }
-{
-    let mut done = 0;
-    while done < space.len() {
-        match from.read(&mut space[done..]) {
-            Ok(n) if 0 < n => done += n,
-            _ => break,
-        }
-    }
-    done
-}
 
 /// The label as it is.
 pub fn say(rt: &impl Print, label: &[u8]) -> io::Result<()> {
