@@ -1,4 +1,4 @@
--- Any two results that a promise of this floor allows are equal, and so is the tape at the end.
+-- Any two results that a promise of this floor allows are equal, and so is the recorder at the end.
 use Rattle.std.proofs.Common.{◌≡◌, sym, ◌∙◌}
 use Rattle.tape.proofs.Determined.{Same, played-same}
 use Rattle.activation.proofs.start.Reads as start-promise

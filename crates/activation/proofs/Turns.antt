@@ -9,53 +9,53 @@ use Rattle.std.specs.Prelude.{Result, Ok, Err}
 use Rattle.tape.specs.Held.{left_after}
 use Rattle.tape.specs.Play.{Sheet, sheet, play, Played}
 use Rattle.tape.proofs.Playing.{one_left}
-use Rattle.tape.specs.declared.Tape.{Tape}
+use Rattle.tape.specs.declared.Recorder.{Recorder}
 use Rattle.activation.specs.Requests.{Request, Bell, Note, Enable, Activate, lasts, turn, requests, record_of, asks, starts}
 use Rattle.activation.specs.Ties.{request_of, undoing, turns, follow, Asked}
 use Rattle.activation.specs.declared.Request.{Request as Asking}
 
 -- ---- one request
 
-module _ (t : Tape) (x : Asking) (a : Tape) (e : Played t (record_of t.base (request_of x) ∷ []) a) where
-  left_is : a.left ≡ t.left - 1
-  left_is = ap (λ (s : Sheet). s.left) e.is ∙ one_left t.base (sheet t) (record_of t.base (request_of x)) ∙ by_kind (request_of x)
+module _ (r : Recorder) (x : Asking) (a : Recorder) (e : Played r (record_of r.base (request_of x) ∷ []) a) where
+  left_is : a.tape.left ≡ r.tape.left - 1
+  left_is = ap (λ (s : Sheet). s.left) e.is ∙ one_left r.base (sheet r) (record_of r.base (request_of x)) ∙ by_kind (request_of x)
     where
-      by_kind : (y : Request) → left_after t.left (record_of t.base y) ≡ t.left - 1
+      by_kind : (y : Request) → left_after r.tape.left (record_of r.base y) ≡ r.tape.left - 1
       by_kind (Bell i) = refl
       by_kind (Note i) = refl
       by_kind Enable = refl
       by_kind Activate = refl
 
-  pub refused : t.left ≡ 0 → Asked t (request_of x ∷ []) a (Err x)
+  pub refused : r.tape.left ≡ 0 → Asked r (request_of x ∷ []) a (Err x)
   refused h =
       record {
         same = e.same;
         base = e.base;
-        rest = λ d n xs. ap (λ (s : Sheet). play t.base s (undoing t.base d n x)) e.is
-            ∙ ap (λ (k : ℕ). play t.base (sheet t) (asks t.base d n k (request_of x ∷ xs))) (sym h);
+        rest = λ d n xs. ap (λ (s : Sheet). play r.base s (undoing r.base d n x)) e.is
+            ∙ ap (λ (k : ℕ). play r.base (sheet r) (asks r.base d n k (request_of x ∷ xs))) (sym h);
         ends = λ xs. ap (λ (k : ℕ). starts k (request_of x ∷ xs)) (sym h);
       }
 
-  pub accepted : (t.left ≡ 0 → ⊥) → Asked t (request_of x ∷ []) a (Ok tt)
+  pub accepted : (r.tape.left ≡ 0 → ⊥) → Asked r (request_of x ∷ []) a (Ok tt)
   accepted h =
-      let s : suc (t.left - 1) ≡ t.left = omega arith in
+      let s : suc (r.tape.left - 1) ≡ r.tape.left = omega arith in
       record {
         same = e.same;
         base = e.base;
-        rest = λ d n xs. ap (λ (k : ℕ). play t.base (sheet a) (asks t.base d n k xs)) left_is
-            ∙ ap (λ (q : Sheet). play t.base q (asks t.base d n (t.left - 1) xs)) e.is
-            ∙ ap (λ (k : ℕ). play t.base (sheet t) (asks t.base d n k (request_of x ∷ xs))) s;
+        rest = λ d n xs. ap (λ (k : ℕ). play r.base (sheet a) (asks r.base d n k xs)) left_is
+            ∙ ap (λ (q : Sheet). play r.base q (asks r.base d n (r.tape.left - 1) xs)) e.is
+            ∙ ap (λ (k : ℕ). play r.base (sheet r) (asks r.base d n k (request_of x ∷ xs))) s;
         ends = λ xs. ap (λ (k : ℕ). starts k xs) left_is ∙ ap (λ (k : ℕ). starts k (request_of x ∷ xs)) s;
       }
 
 -- ---- several
 
-pub none : (t : Tape) → Asked t [] t (Ok tt)
-none t = record { same = refl; base = refl; rest = λ d n xs. refl; ends = λ xs. refl }
+pub none : (r : Recorder) → Asked r [] r (Ok tt)
+none r = record { same = refl; base = refl; rest = λ d n xs. refl; ends = λ xs. refl }
 
-module _ {t : Tape} {ys : List Request} {t' : Tape} where
+module _ {r : Recorder} {ys : List Request} {r' : Recorder} where
   -- one is refused: the others are not asked
-  pub ended : {x : Asking} (zs : List Request) → Asked t ys t' (Err x) → Asked t (ys ++ zs) t' (Err x)
+  pub ended : {x : Asking} (zs : List Request) → Asked r ys r' (Err x) → Asked r (ys ++ zs) r' (Err x)
   ended {x} zs f =
       record {
         same = f.same;
@@ -64,21 +64,21 @@ module _ {t : Tape} {ys : List Request} {t' : Tape} where
         ends = λ xs. rw (append_assoc ys zs xs) (f.ends (zs ++ xs));
       }
 
-  pub further : {zs : List Request} {t'' : Tape} {r : Result (Unit {0}) Asking} → Asked t ys t' (Ok tt) → Asked t' zs t'' r → Asked t (ys ++ zs) t'' r
-  further {zs} {t''} {r} f g =
+  pub further : {zs : List Request} {r'' : Recorder} {o : Result (Unit {0}) Asking} → Asked r ys r' (Ok tt) → Asked r' zs r'' o → Asked r (ys ++ zs) r'' o
+  further {zs} {r''} {o} f g =
       record {
         same = g.same ∙ f.same;
         base = g.base ∙ f.base;
         rest = λ d n xs.
-            ap (λ (b : ℕ). play b (sheet t'') (follow b d n t''.left xs r)) (sym f.base)
+            ap (λ (b : ℕ). play b (sheet r'') (follow b d n r''.tape.left xs o)) (sym f.base)
             ∙ g.rest d n xs
-            ∙ ap (λ (b : ℕ). play b (sheet t') (asks b d n t'.left (zs ++ xs))) f.base
+            ∙ ap (λ (b : ℕ). play b (sheet r') (asks b d n r'.tape.left (zs ++ xs))) f.base
             ∙ f.rest d n (zs ++ xs)
-            ∙ ap (λ (q : List Request). play t.base (sheet t) (asks t.base d n t.left q)) (sym (append_assoc ys zs xs));
-        ends = λ xs. g.ends xs ∙ f.ends (zs ++ xs) ∙ ap (starts t.left) (sym (append_assoc ys zs xs));
+            ∙ ap (λ (q : List Request). play r.base (sheet r) (asks r.base d n r.tape.left q)) (sym (append_assoc ys zs xs));
+        ends = λ xs. g.ends xs ∙ f.ends (zs ++ xs) ∙ ap (starts r.tape.left) (sym (append_assoc ys zs xs));
       }
 
-  pub asking : {zs : List Request} {r : Result (Unit {0}) Asking} → ys ≡ zs → Asked t ys t' r → Asked t zs t' r
+  pub asking : {zs : List Request} {o : Result (Unit {0}) Asking} → ys ≡ zs → Asked r ys r' o → Asked r zs r' o
   asking q f = rw q at f
 
 -- ---- every queue's
@@ -110,20 +110,20 @@ turns-lasts d i (suc m) = sym (turn-join d i (turns d (i + 1) m) lasts) ∙ ap (
 
 -- ---- an attempt: all accepted, or what follows the refusal played
 
-module _ {t : Tape} {ys : List Request} {t' : Tape} where
-  pub all-accepted : (d : Bool) (n : ℕ) → Asked t ys t' (Ok tt) → Played t (asks t.base d n t.left ys) t'
+module _ {r : Recorder} {ys : List Request} {r' : Recorder} where
+  pub all-accepted : (d : Bool) (n : ℕ) → Asked r ys r' (Ok tt) → Played r (asks r.base d n r.tape.left ys) r'
   all-accepted d n f = record { same = f.same; base = f.base; is = rw (append-nil ys) at (f.rest d n []) }
 
-  pub all-starts : Asked t ys t' (Ok tt) → true ≡ starts t.left ys
+  pub all-starts : Asked r ys r' (Ok tt) → true ≡ starts r.tape.left ys
   all-starts f = rw (append-nil ys) at (f.ends [])
 
-  pub undone : (d : Bool) (n : ℕ) {x : Asking} {t'' : Tape} → Asked t ys t' (Err x) → Played t' (undoing t'.base d n x) t'' → Played t (asks t.base d n t.left ys) t''
-  undone d n {x} {t''} f g =
+  pub undone : (d : Bool) (n : ℕ) {x : Asking} {r'' : Recorder} → Asked r ys r' (Err x) → Played r' (undoing r'.base d n x) r'' → Played r (asks r.base d n r.tape.left ys) r''
+  undone d n {x} {r''} f g =
       record {
         same = g.same ∙ f.same;
         base = g.base ∙ f.base;
-        is = g.is ∙ ap (λ (b : ℕ). play b (sheet t') (undoing b d n x)) f.base ∙ (rw (append-nil ys) at (f.rest d n []));
+        is = g.is ∙ ap (λ (b : ℕ). play b (sheet r') (undoing b d n x)) f.base ∙ (rw (append-nil ys) at (f.rest d n []));
       }
 
-  pub not-started : {x : Asking} → Asked t ys t' (Err x) → false ≡ starts t.left ys
+  pub not-started : {x : Asking} → Asked r ys r' (Err x) → false ≡ starts r.tape.left ys
   not-started f = rw (append-nil ys) at (f.ends [])

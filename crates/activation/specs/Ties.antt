@@ -3,7 +3,7 @@
 use Rattle.std.specs.Prelude.{◌≡◌, Bool, false, List, [], ◌++◌, ℕ, zero, suc, ◌+◌, Result, Ok, Err}
 use Rattle.words.specs.declared.Action.{Action}
 use Rattle.tape.specs.Play.{sheet, play}
-use Rattle.tape.specs.declared.Tape.{Tape}
+use Rattle.tape.specs.declared.Recorder.{Recorder}
 use Rattle.activation.specs.Requests.{Request, Bell, Note, Enable, Activate, turn, after, asks, starts}
 use Rattle.activation.specs.declared.Request.{Request as Asking}
 use Rattle.activation.specs.declared.Request.TheVariants.{Doorbell, Notify, Interrupts, Device}
@@ -34,8 +34,8 @@ goes k xs (Err x) = false
 
 -- The requests ys were asked, up to the one that was refused, if one was: whatever the other requests are, what follows
 -- comes to the whole.
-pub record Asked (t : Tape) (ys : List Request) (t' : Tape) (r : Result (Unit {0}) Asking) : Type 0 where
-  pub same : t'.words.ghost_name ≡ t.words.ghost_name
-  pub base : t'.base ≡ t.base
-  pub rest : (d : Bool) (n : ℕ) (xs : List Request) → play t.base (sheet t') (follow t.base d n t'.left xs r) ≡ play t.base (sheet t) (asks t.base d n t.left (ys ++ xs))
-  pub ends : (xs : List Request) → goes t'.left xs r ≡ starts t.left (ys ++ xs)
+pub record Asked (r : Recorder) (ys : List Request) (r' : Recorder) (o : Result (Unit {0}) Asking) : Type 0 where
+  pub same : r'.words.ghost_name ≡ r.words.ghost_name
+  pub base : r'.base ≡ r.base
+  pub rest : (d : Bool) (n : ℕ) (xs : List Request) → play r.base (sheet r') (follow r.base d n r'.tape.left xs o) ≡ play r.base (sheet r) (asks r.base d n r.tape.left (ys ++ xs))
+  pub ends : (xs : List Request) → goes r'.tape.left xs o ≡ starts r.tape.left (ys ++ xs)

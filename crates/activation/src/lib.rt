@@ -15,7 +15,7 @@ ghost use Rattle.tape.specs.Play.{Played};
 ghost use Rattle.activation.specs.Requests.{begins, bells_off, notes_off, lasts, record_of, requests, reverts, start_records, starts, stop_records, stops, turn, wipes, asks};
 ghost use Rattle.activation.specs.Ties.{Asked, request_of, turns, undoing};
 
-use tape::{Call, Entry, Tape};
+use tape::{Call, Entry, Recorder};
 use virtq::QueueIndex;
 use words::Action;
 
@@ -43,77 +43,77 @@ impl Request {
 }
 
 // One request, and whether it was accepted.
-fn ask(tape: &mut Tape, request: Request) -> Result<(), Request>
-    ensures { Asked tape.old (request_of request ∷ []) tape.new result }
+fn ask(recorder: &mut Recorder, request: Request) -> Result<(), Request>
+    ensures { Asked recorder.old (request_of request ∷ []) recorder.new result }
 {
-    let accepted = tape.left != 0;
-    tape.emit(request.record(tape.base));
+    let accepted = recorder.tape.left != 0;
+    recorder.emit(request.record(recorder.base));
     if accepted { Ok(()) } else { Err(request) }
 }
 
 // One queue's registrations.
-fn register_one(tape: &mut Tape, bell: bool, q: QueueIndex) -> Result<(), Request>
-    ensures { Asked tape.old (turn bell q.0 []) tape.new result }
+fn register_one(recorder: &mut Recorder, bell: bool, q: QueueIndex) -> Result<(), Request>
+    ensures { Asked recorder.old (turn bell q.0 []) recorder.new result }
 {
     if bell {
-        ask(tape, Request::Doorbell(q))?;
+        ask(recorder, Request::Doorbell(q))?;
     }
-    ask(tape, Request::Notify(q))
+    ask(recorder, Request::Notify(q))
 }
 
 // Every queue's registrations, up to the refused place.
-fn register_ioevent(tape: &mut Tape, bell: bool, n: u32) -> Result<(), Request>
-    ensures { Asked tape.old (turns bell 0 n) tape.new result }
+fn register_ioevent(recorder: &mut Recorder, bell: bool, n: u32) -> Result<(), Request>
+    ensures { Asked recorder.old (turns bell 0 n) recorder.new result }
 {
     for i in 0..n {
-        register_one(tape, bell, QueueIndex(i))?;
+        register_one(recorder, bell, QueueIndex(i))?;
     }
     Ok(())
 }
 
 // Enable interrupts, then activate.
-fn begin(tape: &mut Tape) -> Result<(), Request>
-    ensures { Asked tape.old lasts tape.new result }
+fn begin(recorder: &mut Recorder) -> Result<(), Request>
+    ensures { Asked recorder.old lasts recorder.new result }
 {
-    ask(tape, Request::Interrupts)?;
-    ask(tape, Request::Device)
+    ask(recorder, Request::Interrupts)?;
+    ask(recorder, Request::Device)
 }
 
-fn ask_all(tape: &mut Tape, bell: bool, n: u32) -> Result<(), Request>
-    ensures { Asked tape.old (requests bell 0 n) tape.new result }
+fn ask_all(recorder: &mut Recorder, bell: bool, n: u32) -> Result<(), Request>
+    ensures { Asked recorder.old (requests bell 0 n) recorder.new result }
 {
-    register_ioevent(tape, bell, n)?;
-    begin(tape)
+    register_ioevent(recorder, bell, n)?;
+    begin(recorder)
 }
 
 // A record of each queue, in queue order.
-fn tell_each<F: Fn(QueueIndex) -> Action>(tape: &mut Tape, n: u32, tell: F)
+fn tell_each<F: Fn(QueueIndex) -> Action>(recorder: &mut Recorder, n: u32, tell: F)
     requires { F.IsAlwaysCallable tell }
-    ensures { (f : ℕ → Action) → ((q : ℕ) (x : Action) → F.post tell (record { 0 = q }) x → x ≡ f q) → Played tape.old (up 0 n f) tape.new }
+    ensures { (f : ℕ → Action) → ((q : ℕ) (x : Action) → F.post tell (record { 0 = q }) x → x ≡ f q) → Played recorder.old (up 0 n f) recorder.new }
 {
     for i in 0..n {
-        tape.emit(tell(QueueIndex(i)));
+        recorder.emit(tell(QueueIndex(i)));
     }
 }
 
 // The notifies of a full set.
-fn unregister_ioevent(tape: &mut Tape, n: u32)
-    ensures { Played tape.old (notes_off tape.old.base n) tape.new }
+fn unregister_ioevent(recorder: &mut Recorder, n: u32)
+    ensures { Played recorder.old (notes_off recorder.old.base n) recorder.new }
 {
-    let base = tape.base;
+    let base = recorder.base;
     tell_each(
-        tape,
+        recorder,
         n,
         |q| Call::Unregister(tape::note_entry(base, q)).into(),
     );
 }
 
-fn unregister_ioevent_doorbell(tape: &mut Tape, n: u32)
-    ensures { Played tape.old (bells_off tape.old.base n) tape.new }
+fn unregister_ioevent_doorbell(recorder: &mut Recorder, n: u32)
+    ensures { Played recorder.old (bells_off recorder.old.base n) recorder.new }
 {
-    let base = tape.base;
+    let base = recorder.base;
     tell_each(
-        tape,
+        recorder,
         n,
         |q| Call::Unregister(tape::bell_entry(base, q)).into(),
     );
@@ -138,55 +138,55 @@ fn revert_one(idx: u32, address: u64, value: u64) -> Action
 }
 
 // The undo that misses: width 8, from num - 1 down to 0.
-fn revert_ioevent(tape: &mut Tape, num: u32, address: u64, wildcard: bool)
-    ensures { Played tape.old (reverts num address wildcard) tape.new }
+fn revert_ioevent(recorder: &mut Recorder, num: u32, address: u64, wildcard: bool)
+    ensures { Played recorder.old (reverts num address wildcard) recorder.new }
 {
     for idx in (0..num).rev() {
-        tape.emit(revert_one(idx, address, datamatch(wildcard, idx)));
+        recorder.emit(revert_one(idx, address, datamatch(wildcard, idx)));
     }
 }
 
 // The records of a state reset: interrupts reset, and the notifies unregistered if a full set was accepted.
-fn wipe(tape: &mut Tape, n: u32, full: bool)
-    ensures { Played tape.old (wipes tape.old.base n full) tape.new }
+fn wipe(recorder: &mut Recorder, n: u32, full: bool)
+    ensures { Played recorder.old (wipes recorder.old.base n full) recorder.new }
 {
-    tape.emit(Call::ResetInterrupts.into());
+    recorder.emit(Call::ResetInterrupts.into());
     if full {
-        unregister_ioevent(tape, n);
+        unregister_ioevent(recorder, n);
     }
 }
 
 // What is undone after a refusal, and the state reset. 3 and 4 are asked only once the full set was accepted.
-fn undo(tape: &mut Tape, bell: bool, n: u32, refused: Request)
-    ensures { Played tape.old (undoing tape.old.base bell n refused) tape.new }
+fn undo(recorder: &mut Recorder, bell: bool, n: u32, refused: Request)
+    ensures { Played recorder.old (undoing recorder.old.base bell n refused) recorder.new }
 {
-    let base = tape.base;
+    let base = recorder.base;
     match refused {
         Request::Doorbell(q) => {
-            revert_ioevent(tape, q.0, tape::bell_entry(base, q).address, true);
-            wipe(tape, n, false);
+            revert_ioevent(recorder, q.0, tape::bell_entry(base, q).address, true);
+            wipe(recorder, n, false);
         }
         Request::Notify(q) => {
             if bell {
-                unregister_ioevent_doorbell(tape, n);
+                unregister_ioevent_doorbell(recorder, n);
             }
-            revert_ioevent(tape, q.0, tape::note_entry(base, q).address, false);
-            wipe(tape, n, false);
+            revert_ioevent(recorder, q.0, tape::note_entry(base, q).address, false);
+            wipe(recorder, n, false);
         }
-        Request::Interrupts | Request::Device => wipe(tape, n, true),
+        Request::Interrupts | Request::Device => wipe(recorder, n, true),
     }
 }
 
 // All that an activation asks once the queues were found valid; and if a request is refused, what is undone and the records
 // of the state reset.
-fn attempt(tape: &mut Tape, bell: bool, n: u32) -> bool
-    ensures played { Played tape.old (asks tape.old.base bell n tape.old.left (requests bell 0 n)) tape.new }
-    ensures ok_value { result ≡ starts tape.old.left (requests bell 0 n) }
+fn attempt(recorder: &mut Recorder, bell: bool, n: u32) -> bool
+    ensures played { Played recorder.old (asks recorder.old.base bell n recorder.old.tape.left (requests bell 0 n)) recorder.new }
+    ensures ok_value { result ≡ starts recorder.old.tape.left (requests bell 0 n) }
 {
-    match ask_all(tape, bell, n) {
+    match ask_all(recorder, bell, n) {
         Ok(()) => true,
         Err(refused) => {
-            undo(tape, bell, n, refused);
+            undo(recorder, bell, n, refused);
             false
         }
     }
@@ -194,30 +194,30 @@ fn attempt(tape: &mut Tape, bell: bool, n: u32) -> bool
 
 /// The records of an activation, and whether every request was accepted. `valid` says whether the queues may be started. A
 /// device that is started is not active, so no full set of registrations stands.
-pub fn start(tape: &mut Tape, bell: bool, n: u32, valid: bool) -> bool
-    ensures same_words { tape.new.words.ghost_name ≡ tape.old.words.ghost_name }
-    ensures played { Played tape.old (start_records tape.old.base bell n valid tape.old.left) tape.new }
-    ensures ok_value { result ≡ begins bell n valid tape.old.left }
+pub fn start(recorder: &mut Recorder, bell: bool, n: u32, valid: bool) -> bool
+    ensures same_words { recorder.new.words.ghost_name ≡ recorder.old.words.ghost_name }
+    ensures played { Played recorder.old (start_records recorder.old.base bell n valid recorder.old.tape.left) recorder.new }
+    ensures ok_value { result ≡ begins bell n valid recorder.old.tape.left }
 {
     if valid {
-        return attempt(tape, bell, n);
+        return attempt(recorder, bell, n);
     }
-    wipe(tape, n, false);
+    wipe(recorder, n, false);
     false
 }
 
 /// The records of a reset: the device's own if it is active, and unless that is refused the state's. Whether it is reset.
-pub fn stop(tape: &mut Tape, n: u32, full: bool, active: bool) -> bool
-    ensures same_words { tape.new.words.ghost_name ≡ tape.old.words.ghost_name }
-    ensures played { Played tape.old (stop_records tape.old.base n full active tape.old.left) tape.new }
-    ensures ok_value { result ≡ stops active tape.old.left }
+pub fn stop(recorder: &mut Recorder, n: u32, full: bool, active: bool) -> bool
+    ensures same_words { recorder.new.words.ghost_name ≡ recorder.old.words.ghost_name }
+    ensures played { Played recorder.old (stop_records recorder.old.base n full active recorder.old.tape.left) recorder.new }
+    ensures ok_value { result ≡ stops active recorder.old.tape.left }
 {
-    let accepted = !active || tape.left != 0;
+    let accepted = !active || recorder.tape.left != 0;
     if active {
-        tape.emit(Call::ResetDevice.into());
+        recorder.emit(Call::ResetDevice.into());
     }
     if accepted {
-        wipe(tape, n, full);
+        wipe(recorder, n, full);
     }
     accepted
 }

@@ -19,7 +19,7 @@ use Rattle.tape.specs.Held.{held_after}
 use Rattle.std.specs.Borrow.{MutBor}
 use Rattle.tape.specs.Play.{IsBegun, Played, Sheet, laid}
 use Rattle.tape.specs.declared.Held.{Held}
-use Rattle.tape.specs.declared.Tape.{Tape}
+use Rattle.tape.specs.declared.Recorder.{Recorder}
 use Rattle.tape.proofs.Playing.{listed, played}
 use Rattle.activation.specs.Requests.{start_records, begins, stop_records, stops}
 use Rattle.activation.proofs.Bound.{start-most, stop-most}
@@ -36,45 +36,45 @@ module _ (s : State) (k : ℕ) (after : Bool → List Held → State) where
   abbrev effect_of : Bool → List Action → Effect
   effect_of ok xs = record { state = after ok (held_after s.config.base s.held k xs); ok = ok; actions = xs }
 
-  as-effect : (w : MutBor (List ℕ)) (t t' : Tape) (xs : List Action) (ok : Bool) → 5 * length xs ≤ length w.now
-      → IsBegun w s.config.base k s.held t → Played t xs t'
-      → (came ok t'.held t'.count ≡ ended (effect_of ok xs)) × (t'.words.now ≡ laid w.now xs)
-  as-effect w t t' xs ok n g e =
-      let p : (t'.words.now ≡ laid w.now xs) × ((t'.count ≡ length xs) × (t'.held ≡ held_after s.config.base s.held k xs)) = played g e n in
+  as-effect : (w : MutBor (List ℕ)) (r r' : Recorder) (xs : List Action) (ok : Bool) → 5 * length xs ≤ length w.now
+      → IsBegun w s.config.base k s.held r → Played r xs r'
+      → (came ok r'.tape.held r'.tape.count ≡ ended (effect_of ok xs)) × (r'.words.now ≡ laid w.now xs)
+  as-effect w r r' xs ok n g e =
+      let p : (r'.words.now ≡ laid w.now xs) × ((r'.tape.count ≡ length xs) × (r'.tape.held ≡ held_after s.config.base s.held k xs)) = played g e n in
       (ap₂ (λ (m : ℕ) (hs : List Held). came ok hs m) p.1.0 p.1.1, p.0)
 
-module _ (s : State) (k : ℕ) (w : MutBor (List ℕ)) (room : 320 ≤ length w.now) (t : Tape) (g : IsBegun w s.config.base k s.held t)
-    (n : ℕ) (is : n ≡ queues_in s) (t' : Tape) (ok : Bool) where
-  left-is : t.left ≡ k
+module _ (s : State) (k : ℕ) (w : MutBor (List ℕ)) (room : 320 ≤ length w.now) (r : Recorder) (g : IsBegun w s.config.base k s.held r)
+    (n : ℕ) (is : n ≡ queues_in s) (r' : Recorder) (ok : Bool) where
+  left-is : r.tape.left ≡ k
   left-is = ap (λ (q : Sheet). q.left) g.is
 
   pub start-effect : s.flags.active ≡ false → (v : Bool) → v ≡ queues_valid s
-      → Played t (start_records t.base s.hot.doorbell n v t.left) t'
-      → ok ≡ begins s.hot.doorbell n v t.left
-      → (◌≡◌ {A = Done} (record { state = settled s ok t'.held; ok = ok; count = t'.count }) (ended (activating s k)))
-      × (t'.words.now ≡ laid w.now (activating s k).actions)
+      → Played r (start_records r.base s.hot.doorbell n v r.tape.left) r'
+      → ok ≡ begins s.hot.doorbell n v r.tape.left
+      → (◌≡◌ {A = Done} (record { state = settled s ok r'.tape.held; ok = ok; count = r'.tape.count }) (ended (activating s k)))
+      × (r'.words.now ≡ laid w.now (activating s k).actions)
   unfolding starting starts_at
   start-effect idle v q e o =
       let o' : ok ≡ starts_at s k = rw (left-is, is, q) at o in
-      let r : start_records t.base s.hot.doorbell n v t.left ≡ starting s k = rw (g.base, left-is, is, q) refl in
+      let m : start_records r.base s.hot.doorbell n v r.tape.left ≡ starting s k = rw (g.base, left-is, is, q) refl in
       let b : 5 * length (starting s k) ≤ length w.now =
       omega (arith, start-most s.config.base s.hot.doorbell (queues_in s) (queues_valid s) k)
       in
-      let p = as-effect s k (settled s) w t t' (starting s k) (starts_at s k) b g (listed e r) in
+      let p = as-effect s k (settled s) w r r' (starting s k) (starts_at s k) b g (listed e m) in
       (rw (o', idle) p.0, rw idle p.1)
 
-  pub stop-effect : Played t (stop_records t.base n s.flags.registered s.flags.active t.left) t'
-      → ok ≡ stops s.flags.active t.left
-      → (◌≡◌ {A = Done} (record { state = pick ok (wiped s t'.held) s; ok = ok; count = t'.count }) (ended (resetting s k)))
-      × (t'.words.now ≡ laid w.now (resetting s k).actions)
+  pub stop-effect : Played r (stop_records r.base n s.flags.registered s.flags.active r.tape.left) r'
+      → ok ≡ stops s.flags.active r.tape.left
+      → (◌≡◌ {A = Done} (record { state = pick ok (wiped s r'.tape.held) s; ok = ok; count = r'.tape.count }) (ended (resetting s k)))
+      × (r'.words.now ≡ laid w.now (resetting s k).actions)
   unfolding stopping
   stop-effect e o =
       let o' : ok ≡ stops s.flags.active k = rw left-is at o in
-      let r : stop_records t.base n s.flags.registered s.flags.active t.left ≡ stopping s k = rw (g.base, left-is, is) refl in
+      let m : stop_records r.base n s.flags.registered s.flags.active r.tape.left ≡ stopping s k = rw (g.base, left-is, is) refl in
       let b : 5 * length (stopping s k) ≤ length w.now =
       omega (arith, stop-most s.config.base (queues_in s) s.flags.registered s.flags.active k)
       in
-      let p = as-effect s k (λ (g : Bool) (hs : List Held). pick g (wiped s hs) s) w t t' (stopping s k) (stops s.flags.active k) b g (listed e r) in
+      let p = as-effect s k (λ (g : Bool) (hs : List Held). pick g (wiped s hs) s) w r r' (stopping s k) (stops s.flags.active k) b g (listed e m) in
       (rw o' p.0, p.1)
 
 -- ---- refusal 7

@@ -18,7 +18,7 @@ use mmio_config::{Config, Configuration, Flags, MAX_VECTORS, Region, Vector};
 use mmio_hot::Hot;
 use mmio_tables::{Kind, Standing};
 use msi::Msi;
-use tape::{Call, Held, Tape};
+use tape::{Call, Held, Recorder};
 use virtq::{Field, MAX_QUEUES, Queue, QueueIndex};
 use words::{Action, Refusal};
 
@@ -179,12 +179,12 @@ impl MmioV2DeviceState {
         }
         let n = mmio_tables::queues_in(self.config.count);
         let valid = self.check_queues_valid();
-        let mut tape = Tape::new(actions, self.config.base, k, self.held);
-        let ok = activation::start(&mut tape, self.hot.doorbell, n, valid);
+        let mut recorder = Recorder::new(actions, self.config.base, k, self.held);
+        let ok = activation::start(&mut recorder, self.hot.doorbell, n, valid);
         Ok(Done {
-            state: settle(self, tape.held, ok),
+            state: settle(self, recorder.tape.held, ok),
             ok,
-            count: tape.count,
+            count: recorder.tape.count,
         })
     }
 
@@ -212,12 +212,12 @@ impl MmioV2DeviceState {
     {
         enough(actions)?;
         let n = mmio_tables::queues_in(self.config.count);
-        let mut tape = Tape::new(actions, self.config.base, k, self.held);
-        let ok = activation::stop(&mut tape, n, self.flags.registered, self.flags.active);
+        let mut recorder = Recorder::new(actions, self.config.base, k, self.held);
+        let ok = activation::stop(&mut recorder, n, self.flags.registered, self.flags.active);
         Ok(Done {
-            state: reset_to(self, tape.held, ok),
+            state: reset_to(self, recorder.tape.held, ok),
             ok,
-            count: tape.count,
+            count: recorder.tape.count,
         })
     }
 

@@ -3,13 +3,13 @@ use Rattle.std.proofs.Common.{◌≡◌, List, refl, sym, ◌∙◌}
 use Rattle.words.specs.declared.Action.{Action}
 use Rattle.tape.specs.Held.{no_held}
 use Rattle.tape.specs.Play.{sheet, Played}
-use Rattle.tape.specs.declared.Tape.{Tape}
+use Rattle.tape.specs.declared.Recorder.{Recorder}
 use Rattle.tape.proofs.bell_entry.Reads as bell-entry-promise
 use Rattle.tape.proofs.note_entry.Reads as note-entry-promise
 use Rattle.tape.proofs.ActionFromCall.from.Reads as call-promise
 use Rattle.tape.proofs.HeldDefault.default.Reads as held-default-promise
-use Rattle.tape.proofs.Tape.new.Reads as new-promise
-use Rattle.tape.proofs.Tape.emit.Reads as emit-promise
+use Rattle.tape.proofs.Recorder.new.Reads as new-promise
+use Rattle.tape.proofs.Recorder.emit.Reads as emit-promise
 
 pub bell-entry-determined : (κs : _) (a : _) (r r' : _) (s s' : _) → bell-entry-promise.Post κs a r s → bell-entry-promise.Post κs a r' s' → r ≡ r'
 bell-entry-determined κs a r r' s s' p q = p ∙ sym q
@@ -20,13 +20,13 @@ note-entry-determined κs a r r' s s' p q = p ∙ sym q
 pub call-determined : (κs : _) (a : _) (r r' : _) (s s' : _) → call-promise.Post κs a r s → call-promise.Post κs a r' s' → r ≡ r'
 call-determined κs a r r' s s' p q = p ∙ sym q
 
--- two tapes are the same: what is on them, the window's base, and the words that they hold
-pub record Same (t t' : Tape) : Type 0 where
-  pub on-it : sheet t ≡ sheet t'
-  pub for-window : t.base ≡ t'.base
-  pub over-words : t.words.ghost_name ≡ t'.words.ghost_name
+-- two recorders are the same: what is on their tapes, the window's base, and the words that they hold
+pub record Same (r r' : Recorder) : Type 0 where
+  pub on-it : sheet r ≡ sheet r'
+  pub for-window : r.base ≡ r'.base
+  pub over-words : r.words.ghost_name ≡ r'.words.ghost_name
 
-pub played-same : {t t' t'' : Tape} {xs : List Action} → Played t xs t' → Played t xs t'' → Same t' t''
+pub played-same : {r r' r'' : Recorder} {xs : List Action} → Played r xs r' → Played r xs r'' → Same r' r''
 played-same p q =
     record { on-it = p.is ∙ sym q.is; for-window = p.base ∙ sym q.base; over-words = p.same ∙ sym q.same }
 

@@ -5,7 +5,7 @@ use Rattle.words.specs.Actions.{Emitted, fitting, words_of, words_of_all}
 use Rattle.words.proofs.Actions.{fits, length-words, sets-join}
 use Rattle.words.specs.declared.Action.{Action}
 use Rattle.tape.specs.declared.Held.{Held}
-use Rattle.tape.specs.declared.Tape.{Tape}
+use Rattle.tape.specs.declared.Recorder.{Recorder}
 use Rattle.tape.specs.Held.{held_one, held_after, left_after}
 use Rattle.std.specs.Borrow.{MutBor}
 use Rattle.tape.specs.Play.{IsBegun, Sheet, sheet, room_for, one, play, Played, laid}
@@ -68,40 +68,40 @@ told b s (x ∷ xs) h =
 
 -- ---- as a function's contract says it
 
-pub unplayed : (t : Tape) → Played t [] t
-unplayed t = record { same = refl; base = refl; is = refl }
+pub unplayed : (r : Recorder) → Played r [] r
+unplayed r = record { same = refl; base = refl; is = refl }
 
-module _ {t : Tape} {xs : List Action} {t' : Tape} (e : Played t xs t') where
-  pub then : {ys : List Action} {t'' : Tape} → Played t' ys t'' → Played t (xs ++ ys) t''
-  then {ys} {t''} f =
+module _ {r : Recorder} {xs : List Action} {r' : Recorder} (e : Played r xs r') where
+  pub then : {ys : List Action} {r'' : Recorder} → Played r' ys r'' → Played r (xs ++ ys) r''
+  then {ys} {r''} f =
       record {
         same = f.same ∙ e.same;
         base = f.base ∙ e.base;
         is =
             f.is
-            ∙ ap (λ (b : ℕ). play b (sheet t') ys) e.base
-            ∙ ap (λ (s : Sheet). play t.base s ys) e.is
-            ∙ sym (play-join t.base (sheet t) xs ys);
+            ∙ ap (λ (b : ℕ). play b (sheet r') ys) e.base
+            ∙ ap (λ (s : Sheet). play r.base s ys) e.is
+            ∙ sym (play-join r.base (sheet r) xs ys);
       }
 
-  -- the same, where the records that follow are those of the tape's own window
-  pub based : (ys : ℕ → List Action) {t'' : Tape} → Played t' (ys t'.base) t'' → Played t (xs ++ ys t.base) t''
-  based ys {t''} f = then (subst (λ (b : ℕ). Played t' (ys b) t'') e.base f)
+  -- the same, where the records that follow are those of the recorder's own window
+  pub based : (ys : ℕ → List Action) {r'' : Recorder} → Played r' (ys r'.base) r'' → Played r (xs ++ ys r.base) r''
+  based ys {r''} f = then (subst (λ (b : ℕ). Played r' (ys b) r'') e.base f)
 
-  pub listed : {ys : List Action} → xs ≡ ys → Played t ys t'
+  pub listed : {ys : List Action} → xs ≡ ys → Played r ys r'
   listed q = rw q at e
 
 -- from the front of the lent words, with room for all
-pub played : {w : MutBor (List ℕ)} {b k : ℕ} {hs : List Held} {xs : List Action} {t t' : Tape}
-    → IsBegun w b k hs t → Played t xs t' → 5 * length xs ≤ length w.now
-    → (t'.words.now ≡ laid w.now xs) × ((t'.count ≡ length xs) × (t'.held ≡ held_after b hs k xs))
-played {w} {b} {k} {hs} {xs} {t} {t'} g e h =
+pub played : {w : MutBor (List ℕ)} {b k : ℕ} {hs : List Held} {xs : List Action} {r r' : Recorder}
+    → IsBegun w b k hs r → Played r xs r' → 5 * length xs ≤ length w.now
+    → (r'.words.now ≡ laid w.now xs) × ((r'.tape.count ≡ length xs) × (r'.tape.held ≡ held_after b hs k xs))
+played {w} {b} {k} {hs} {xs} {r} {r'} g e h =
     let s₀ : Sheet = record { words = w.now; count = 0; left = k; held = hs } in
-    let q : sheet t' ≡ play b s₀ xs = e.is ∙ ap (λ (c : ℕ). play c (sheet t) xs) g.base ∙ ap (λ (s : Sheet). play b s xs) g.is in
-    let r : Told s₀ xs (play b s₀ xs) = told b s₀ xs (omega arith) in (
-      ap (λ (s : Sheet). s.words) q ∙ r.words,
+    let q : sheet r' ≡ play b s₀ xs = e.is ∙ ap (λ (c : ℕ). play c (sheet r) xs) g.base ∙ ap (λ (s : Sheet). play b s xs) g.is in
+    let d : Told s₀ xs (play b s₀ xs) = told b s₀ xs (omega arith) in (
+      ap (λ (s : Sheet). s.words) q ∙ d.words,
       (
-        ap (λ (s : Sheet). s.count) q ∙ r.count ∙ zero-add (length xs),
+        ap (λ (s : Sheet). s.count) q ∙ d.count ∙ zero-add (length xs),
         ap (λ (s : Sheet). s.held) q ∙ play-held b s₀ xs,
       ),
     )

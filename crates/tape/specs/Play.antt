@@ -7,7 +7,7 @@ use Rattle.words.specs.Actions.{words_of, words_of_all}
 use Rattle.words.specs.declared.Action.{Action}
 use Rattle.tape.specs.Held.{held_one, left_after}
 use Rattle.tape.specs.declared.Held.{Held}
-use Rattle.tape.specs.declared.Tape.{Tape}
+use Rattle.tape.specs.declared.Recorder.{Recorder}
 
 -- the lent words, the records in them, the answers left, the held table
 pub record Sheet : Type 0 where
@@ -16,9 +16,9 @@ pub record Sheet : Type 0 where
   pub left : ℕ
   pub held : List Held
 
--- what is on a tape
-abbrev pub sheet : Tape → Sheet
-sheet t = record { words = t.words.now; count = t.count; left = t.left; held = t.held }
+-- what a recorder has: its words, and its tape's parts
+abbrev pub sheet : Recorder → Sheet
+sheet r = record { words = r.words.now; count = r.tape.count; left = r.tape.left; held = r.tape.held }
 
 -- five words are left behind n records
 abbrev pub room_for : (n : ℕ) → (words : ℕ) → Bool
@@ -40,17 +40,17 @@ abbrev pub play : (base : ℕ) → Sheet → List Action → Sheet
 play b s [] = s
 play b s (x ∷ xs) = play b (one b s x) xs
 
--- a tape with nothing on it yet, over the lent words w
-pub record IsBegun (w : MutBor (List ℕ)) (b k : ℕ) (hs : List Held) (t : Tape) : Type 0 where
-  pub same : t.words.ghost_name ≡ w.ghost_name
-  pub base : t.base ≡ b
-  pub is : sheet t ≡ record { words = w.now; count = 0; left = k; held = hs }
+-- a recorder with nothing on its tape yet, over the lent words w
+pub record IsBegun (w : MutBor (List ℕ)) (b k : ℕ) (hs : List Held) (r : Recorder) : Type 0 where
+  pub same : r.words.ghost_name ≡ w.ghost_name
+  pub base : r.base ≡ b
+  pub is : sheet r ≡ record { words = w.now; count = 0; left = k; held = hs }
 
--- the records xs were played: the tape t is then t', over the same lent words and for the same window
-pub record Played (t : Tape) (xs : List Action) (t' : Tape) : Type 0 where
-  pub same : t'.words.ghost_name ≡ t.words.ghost_name
-  pub base : t'.base ≡ t.base
-  pub is : sheet t' ≡ play t.base (sheet t) xs
+-- the records xs were played: the recorder r is then r', over the same lent words and for the same window
+pub record Played (r : Recorder) (xs : List Action) (r' : Recorder) : Type 0 where
+  pub same : r'.words.ghost_name ≡ r.words.ghost_name
+  pub base : r'.base ≡ r.base
+  pub is : sheet r' ≡ play r.base (sheet r) xs
 
 -- the records' words over the front of l; "words past the last are unchanged"
 abbrev pub laid : List ℕ → List Action → List ℕ

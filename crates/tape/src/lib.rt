@@ -56,6 +56,14 @@ pub struct Held {
     pub note: bool,
 }
 
+/// How many records were written, how many more requests will be accepted, and the held table so far.
+#[derive(Clone, Copy, PartialEq, Eq, Debug)]
+pub struct Tape {
+    pub count: usize,
+    pub left: u32,
+    pub held: [Held; MAX_QUEUES],
+}
+
 /// A queue's doorbell: its own address, any length.
 pub fn bell_entry(base: u64, q: QueueIndex) -> Entry
     ensures { result ≡ bell base q.0 }
@@ -212,38 +220,37 @@ fn left_after(left: u32, x: Action) -> u32
     }
 }
 
-/// The action list of one operation as it is written: the lent words, the window's base, how many records stand in the words,
-/// how many more requests will be accepted, and the held table so far.
+/// The action list of one operation as it is written: the lent words, the window's base, and the tape so far.
 #[derive(Drop)]
-pub struct Tape<'a> {
+pub struct Recorder<'a> {
     pub words: &'a mut [u64],
     pub base: u64,
-    pub count: usize,
-    pub left: u32,
-    pub held: [Held; MAX_QUEUES],
+    pub tape: Tape,
 }
 
-impl<'a> Tape<'a> {
+impl<'a> Recorder<'a> {
     ghost use Rattle.tape.specs.Play.{Played, room_for, IsBegun};
 
     /// Nothing written yet, and k requests to be accepted.
-    pub fn new(words: &'a mut [u64], base: u64, k: u32, held: [Held; MAX_QUEUES]) -> Tape<'a>
+    pub fn new(words: &'a mut [u64], base: u64, k: u32, held: [Held; MAX_QUEUES]) -> Recorder<'a>
         ensures same_words { result.words.ghost_name ≡ words.entry.ghost_name }
         ensures begun { IsBegun words.entry base k held result }
     {
-        Tape {
+        Recorder {
             words,
             base,
-            count: 0,
-            left: k,
-            held,
+            tape: Tape {
+                count: 0,
+                left: k,
+                held,
+            },
         }
     }
 
     fn has_room(&self) -> bool
-        ensures { result ≡ room_for self.now.count (length self.now.words.now) }
+        ensures { result ≡ room_for self.now.tape.count (length self.now.words.now) }
     {
-        self.words.len() >= 5 && self.count <= (self.words.len() - 5) / 5
+        self.words.len() >= 5 && self.tape.count <= (self.words.len() - 5) / 5
     }
 
     /// Writes one record behind the others, and moves answers and held table on. Where five words are not left, the record
@@ -251,11 +258,11 @@ impl<'a> Tape<'a> {
     pub fn emit(&mut self, x: Action)
         ensures { Played self.old (x ∷ []) self.new }
     {
-        self.held = held_one(self.held, self.base, self.left, x);
-        self.left = left_after(self.left, x);
+        self.tape.held = held_one(self.tape.held, self.base, self.tape.left, x);
+        self.tape.left = left_after(self.tape.left, x);
         if self.has_room() {
-            words::append(self.words, 5 * self.count, x);
-            self.count += 1;
+            words::append(self.words, 5 * self.tape.count, x);
+            self.tape.count += 1;
         }
     }
 }

@@ -13,6 +13,6 @@ returns-in_err-ask c =
 pub returns : goal.returns
 returns c =
     elim c.if-bell.branch [
-      | then-bell+in_ok-ask w ↦ rw w.if-bell.true (further w.in_ok-ask.ensures (rw w.tape-is at c.ask-2.ensures))
-      | else-bell w ↦ rw w.if-bell.false (rw w.tape-is at c.ask-2.ensures)
+      | then-bell+in_ok-ask w ↦ rw w.if-bell.true (further w.in_ok-ask.ensures (rw w.recorder-is at c.ask-2.ensures))
+      | else-bell w ↦ rw w.if-bell.false (rw w.recorder-is at c.ask-2.ensures)
     ]

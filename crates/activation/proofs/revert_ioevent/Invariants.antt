@@ -5,4 +5,4 @@ use Rattle.tape.proofs.Loops.{Sinking}
 use Rattle.activation.proofs.revert_ioevent.Given as goal
 
 abbrev pub invariant-loop-idx : goal.invariant-loop-idx
-invariant-loop-idx l = Sinking (λ k. unregister (entry k l.address 8 (pick l.wildcard 0 (k + 1)))) l.num l.initial.tape l.tape l.idx
+invariant-loop-idx l = Sinking (λ k. unregister (entry k l.address 8 (pick l.wildcard 0 (k + 1)))) l.num l.initial.recorder l.recorder l.idx

@@ -12,9 +12,9 @@ pub returns-after-bell : goal.returns-after-bell
 returns-after-bell c =
     elim c.if-bell.branch [
       | then-bell w ↦
-          let e = then w.unregister_ioevent_doorbell.ensures (rw (c.note_entry.ensures, w.tape-is) at c.revert_ioevent-in-Notify.ensures) in
+          let e = then w.unregister_ioevent_doorbell.ensures (rw (c.note_entry.ensures, w.recorder-is) at c.revert_ioevent-in-Notify.ensures) in
           rw (c.in-Notify.is, w.if-bell.true) (based e (λ b. wipes b c.args.n false) c.wipe-in-Notify.ensures)
       | else-bell w ↦
-          let e = rw (c.note_entry.ensures, w.tape-is) at c.revert_ioevent-in-Notify.ensures in
+          let e = rw (c.note_entry.ensures, w.recorder-is) at c.revert_ioevent-in-Notify.ensures in
           rw (c.in-Notify.is, w.if-bell.false) (based e (λ b. wipes b c.args.n false) c.wipe-in-Notify.ensures)
     ]

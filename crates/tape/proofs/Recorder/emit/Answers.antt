@@ -1,7 +1,7 @@
 use Rattle.std.proofs.Common.{refl, sym, ◌∙◌}
 use Rattle.tape.specs.Play.{sheet}
 use Rattle.tape.proofs.Playing.{one_written, one_unwritten}
-use Rattle.tape.proofs.Tape.emit.Goals as goal
+use Rattle.tape.proofs.Recorder.emit.Goals as goal
 
 pub returns-then-has_room : goal.returns-then-has_room
 returns-then-has_room c =
