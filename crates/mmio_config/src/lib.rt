@@ -171,7 +171,7 @@ fn kept_regions(table: [Region; MAX_REGIONS], regions: u32) -> [Region; MAX_REGI
 pub fn create_queues(sizes: [u16; MAX_QUEUES]) -> [Queue; MAX_QUEUES]
     ensures { result ≡ fresh_queues sizes }
 {
-    sizes.map(Queue::fresh)
+    array::from_fn(|i| Queue::fresh(sizes[i]))
 }
 
 /// The polled registers of a fresh device.

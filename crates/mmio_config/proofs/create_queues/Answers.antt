@@ -1,7 +1,9 @@
-use Rattle.std.proofs.Common.{rules, ℕ}
+use Rattle.std.proofs.Common.{rules, ℕ, get_or}
 use Rattle.virtq.specs.Fields.{fresh_queue, no_queue}
-use Rattle.mmio_config.proofs.Chains.{each-fits}
+use Rattle.mmio_config.proofs.Chains.{each-fits, made-at}
 use Rattle.mmio_config.proofs.create_queues.Goals as goal
 
 pub returns : goal.returns
-returns c = each-fits (λ (i m : ℕ). fresh_queue m) c.args.sizes c.map.result 0 no_queue (search rules) (λ k b. let h = c.map.ensures.items.at k 0 no_queue (search rules) in search rules)
+returns c =
+    each-fits (λ (i m : ℕ). fresh_queue m) c.args.sizes c.from_fn.result 0 no_queue (search rules)
+    (λ k b. made-at _ _ (λ (i : ℕ). fresh_queue (get_or c.args.sizes i 0)) (λ i y q s. search rules) c.from_fn.result 16 k no_queue c.from_fn.ensures.items (search rules))
