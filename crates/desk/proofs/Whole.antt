@@ -117,7 +117,7 @@ module _ (o : Show) (s l : List ℕ) {l' : List ℕ} {p q : Page} (front : p.at 
 -- ---- and where there is too little room
 
 module _ (o : Show) (s l : List ℕ) where
-  none_told : enough s (length l) ≡ false → Replayed o s l l (record { device = device no_state; len = 0; whole = false })
+  pub none_told : enough s (length l) ≡ false → Replayed o s l l (record { device = device no_state; len = 0; whole = false })
   none_told e = record { whole = sym e; state = rw e; text = rw e (emitted.still l 0) }
 
   pub good-no-room : Good s → length l < 128 + 10304 * count s → Replayed o s l l (record { device = device no_state; len = 0; whole = false })

@@ -1,6 +1,7 @@
 -- The code's masks and products, over plain numbers.
-use Rattle.std.proofs.Common.{◌≡◌, ℕ, ◌+◌, ◌-◌, ◌*◌, ◌/◌, ◌%◌, ◌^◌, ◌<◌, false, not, nat_eq, refl, ap, ◌∙◌, ap₂, arith}
+use Rattle.std.proofs.Common.{◌≡◌, ℕ, ◌+◌, ◌-◌, ◌*◌, ◌/◌, ◌%◌, ◌^◌, ◌<◌, ◌≤◌, false, not, nat_eq, refl, ap, ◌∙◌, ap₂, mul-le-mul, arith}
 use lib.Bits.{bit_and, bit_or, and_block, and_high, and_mask, or_block, or_shifted, or_zero_r}
+use lib.Pow.{le_ones}
 use Rattle.std.specs.Prelude.{Option, None, Some}
 use Rattle.std.specs.Option.{is_some, unwrap_or}
 use Rattle.words.specs.Pick.{pick}
@@ -8,6 +9,10 @@ use Rattle.words.specs.Bits.{bit, without}
 use Rattle.words.proofs.Bits.{masked-bit}
 use Rattle.dragonball.specs.declared.MsiCommand.{MsiCommand}
 use Rattle.dragonball.specs.Messages.{command_of}
+
+-- a product of two 32-bit numbers and a third fit 64 bits
+pub product_small : {a b : ℕ} → a < 2 ^ 32 → b < 2 ^ 32 → a * b ≤ (2 ^ 32 - 1) * (2 ^ 32 - 1)
+product_small {a} {b} h k = mul-le-mul (le_ones 32 h) (le_ones 32 k)
 
 -- `x & !4` of a 32-bit number clears bit 2 and leaves the others
 pub without-bit-2 : (x : ℕ) → x < 2 ^ 32 → bit_and x (2 ^ 32 - 1 - 4) ≡ without 2 x

@@ -49,3 +49,7 @@ config_by_mask v =
 -- a mask of the bit for MSI alone
 pub msi_by_mask : (v : ℕ) → bit_and v 2 ≡ v / 2 ^ 1 % 2 * 2
 msi_by_mask v = and_pow v 1
+
+-- the lowest bit
+pub low_bit : (v : ℕ) → v / 2 ^ 0 % 2 ≡ v % 2
+low_bit v = omega arith

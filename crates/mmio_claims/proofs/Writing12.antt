@@ -230,7 +230,7 @@ module _ (s : State) (r : Real s) (f : ℕ → ℕ) (n : List ℕ) where
   -- FAILED set is a status above this one, and not zero
   failed-above : (bit_or s.hot.status (failed s.hot.status) ≡ failed s.hot.status) × (eqb (failed s.hot.status) 0 ≡ false)
   failed-above =
-      let p = and_parts _ _ (ladder.member (λ (x : ℕ). eqb (bit_or x (failed x)) (failed x) && not (eqb (failed x) 0)) s.hot.status statuses refl r.status) in
+      let p = and_parts _ _ (ladder.passed (λ (x : ℕ). eqb (bit_or x (failed x)) (failed x) && not (eqb (failed x) 0)) s.hot.status statuses refl r.status) in
       (eqb-true _ _ p.0, not-true _ p.1)
 
   fail-marks : (v : ℕ) → eqb v (failed s.hot.status) ≡ true → statused s f n (failed s.hot.status) ≡ std.status_written (plain s f n) v

@@ -16,6 +16,10 @@ use Rattle.virtq.specs.Fields.{size_fit, power_of_two}
 use Rattle.mmio_config.specs.Fresh.{max_vectors, max_regions, refusal_of, queue_count, has_control, maxima_fit, maximum_fit, number_or_none, unless}
 use Rattle.mmio_config.specs.declared.Configuration.{Configuration}
 
+pub at_most_one : (b : Bool) → pick b 1 0 ≤ 1
+at_most_one true = omega arith
+at_most_one false = omega arith
+
 -- the refusals' numbers, in the order of the checks; 0 where the state is made
 pub refusal-numbered : (c : Configuration)
     → refusal_of c

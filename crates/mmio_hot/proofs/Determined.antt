@@ -1,5 +1,7 @@
 -- Any two results that a promise of this floor allows are equal.
-use mathlib.Core.Path.{◌≡◌, sym, ◌∙◌}
+use mathlib.Core.Bool.{false}
+use mathlib.Core.Path.{◌≡◌, refl, sym, ◌∙◌}
+use Rattle.mmio_hot.proofs.HotDefault.default.Reads as hot-default-promise
 use Rattle.mmio_hot.proofs.Hot.fail.Reads as fail-promise
 use Rattle.mmio_hot.proofs.Hot.wiped.Reads as wiped-promise
 use Rattle.mmio_hot.proofs.csr_of.Reads as csr-of-promise
@@ -16,3 +18,8 @@ csr-of-determined κs a r r' s s' p q = p ∙ sym q
 
 pub command-at-determined : (κs : _) (a : _) (r r' : _) (s s' : _) → command-at-promise.Post κs a r s → command-at-promise.Post κs a r' s' → r ≡ r'
 command-at-determined κs a r r' s s' p q = p ∙ sym q
+
+-- the derived default is zeros, with no doorbell and MSI off
+pub hot-default : (κs : _) (a : _) (r : _) (s : _) → hot-default-promise.Post κs a r s
+    → r ≡ record { status = 0; interrupts = 0; vendor = 0; page = 0; ackpage = 0; queue = 0; region = 0; doorbell = false; msi = false }
+hot-default κs a r s p = rw (p.0, p.1.0, p.1.1.0, p.1.1.1.0, p.1.1.1.1.0, p.1.1.1.1.1.0, p.1.1.1.1.1.1.0, p.1.1.1.1.1.1.1.0, p.1.1.1.1.1.1.1.1) refl

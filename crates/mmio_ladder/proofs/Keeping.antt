@@ -27,21 +27,33 @@ use Rattle.mmio_ladder.specs.declared.Move.TheVariants.{Take, Start, Reset, Stay
 
 -- ---- the ten statuses
 
--- a test that each of a list passes is passed by one among them
-pub member : (p : ℕ → Bool) (v : ℕ) (xs : List ℕ) → list_all p xs ≡ true → among v xs ≡ true → p v ≡ true
-member p v [] a h = absurd (true≢false (sym h))
-member p v (x ∷ xs) a h = go (eqb v x) refl h (member p v xs (and_parts (p x) (list_all p xs) a).1)
+pub data All (P : ℕ → Type 0) : List ℕ → Type 0 where
+  none : All P []
+  more : {x : ℕ} {xs : List ℕ} → P x → All P xs → All P (x ∷ xs)
+
+-- what holds of each of a list holds of one among them
+pub member : (P : ℕ → Type 0) (v : ℕ) (xs : List ℕ) → All P xs → among v xs ≡ true → P v
+member P v [] none h = absurd (true≢false (sym h))
+member P v (x ∷ xs) (more p m) h = go (eqb v x) refl h (member P v xs m)
   where
-    go : (t : Bool) → eqb v x ≡ t → pick t true (among v xs) ≡ true → (among v xs ≡ true → p v ≡ true) → p v ≡ true
-    go true e k f = rw (eqb-true v x e) (and_parts (p x) (list_all p xs) a).0
+    go : (t : Bool) → eqb v x ≡ t → pick t true (among v xs) ≡ true → (among v xs ≡ true → P v) → P v
+    go true e k f = rw (eqb-true v x e) p
     go false e k f = f k
+
+-- a test that is true of each
+each_passes : (p : ℕ → Bool) (xs : List ℕ) → list_all p xs ≡ true → All (λ (x : ℕ). p x ≡ true) xs
+each_passes p [] a = none
+each_passes p (x ∷ xs) a = let q = and_parts (p x) (list_all p xs) a in more q.0 (each_passes p xs q.1)
+
+pub passed : (p : ℕ → Bool) (v : ℕ) (xs : List ℕ) → list_all p xs ≡ true → among v xs ≡ true → p v ≡ true
+passed p v xs a = member (λ (x : ℕ). p x ≡ true) v xs (each_passes p xs a)
 
 -- FAILED leaves a status among the ten, and one at the top there
 pub failed-on : (v : ℕ) → among v statuses ≡ true → among (failed v) statuses ≡ true
-failed-on v h = member (λ (x : ℕ). among (failed x) statuses) v statuses refl h
+failed-on v h = passed (λ (x : ℕ). among (failed x) statuses) v statuses refl h
 
 pub failed-top : (v : ℕ) → among v top_statuses ≡ true → among (failed v) top_statuses ≡ true
-failed-top v h = member (λ (x : ℕ). among (failed x) top_statuses) v top_statuses refl h
+failed-top v h = passed (λ (x : ℕ). among (failed x) top_statuses) v top_statuses refl h
 
 -- ---- the rungs are unions of the standard's bits, one more at each (virtio 1.2, 2.1 and 3.1.1)
 
@@ -59,7 +71,7 @@ rung-f = refl
 
 -- what FAILED sets is the standard's bit, on every status that has it clear
 pub failed-bit : (v : ℕ) → among v statuses ≡ true → failed v ≡ bit_or v std.FAILED
-failed-bit v h = eqb-true (failed v) (bit_or v std.FAILED) (member (λ (x : ℕ). eqb (failed x) (bit_or x std.FAILED)) v statuses refl h)
+failed-bit v h = eqb-true (failed v) (bit_or v std.FAILED) (passed (λ (x : ℕ). eqb (failed x) (bit_or x std.FAILED)) v statuses refl h)
 
 -- ---- states with the same status, or with FAILED set
 

@@ -1,3 +1,4 @@
 -- How the code comes to the definitions, and what each promise determines.
+pub mod Messaging
 pub mod Keeping
 pub mod Determined

@@ -1,5 +1,8 @@
 -- Any two results that a promise of this floor allows are equal, and so are the lent words at the end.
-use mathlib.Core.Path.{◌≡◌, sym, ◌∙◌}
+use mathlib.Core.Path.{◌≡◌, refl, sym, ◌∙◌}
+use Rattle.mmio_state.specs.Fresh.{no_state}
+use Rattle.mmio_v2.specs.Fresh.{device}
+use Rattle.mmio_v2.proofs.MmioV2DeviceDefault.default.Reads as device-default-promise
 use Rattle.mmio_v2.proofs.MmioV2Device.new.Reads as new-promise
 use Rattle.mmio_v2.proofs.MmioV2Device.read.Reads as read-promise
 use Rattle.mmio_v2.proofs.MmioV2Device.write.Reads as write-promise
@@ -32,3 +35,7 @@ held-entry-determined κs a r r' s s' p q = p ∙ sym q
 
 pub made-device-from-determined : (κs : _) (a : _) (r r' : _) (s s' : _) → made-device-from-promise.Post κs a r s → made-device-from-promise.Post κs a r' s' → r ≡ r'
 made-device-from-determined κs a r r' s s' p q = p ∙ sym q
+
+-- the derived default is the device of zeros
+pub device-default : (κs : _) (a : _) (r : _) (s : _) → device-default-promise.Post κs a r s → r ≡ device no_state
+device-default κs a r s p = rw p refl

@@ -14,6 +14,7 @@ use Rattle.registers.specs.Registers.{read_rows, read_at}
 use Rattle.registers.specs.declared.ReadRegister.{ReadRegister}
 use Rattle.registers.specs.declared.ReadRegister.TheVariants as R
 use Rattle.mmio_state.specs.State.{State}
+use Rattle.mmio_access.specs.Changes.{config_read}
 use Rattle.mmio_access.specs.Shown.{doorbell_word}
 use Rattle.mmio_v2.specs.Operation.{Read}
 use Rattle.mmio_v2.specs.Registers.{shows, word_if, bytes_shown, fits_reply, read_asks}
@@ -74,3 +75,6 @@ module _ (s : State) where
 
   pub asks_nothing : (o l : ℕ) → leb 0x100 o ≡ false → read_asks s (read_at o l) l ≡ []
   asks_nothing o l e = rw e (found Silent R.Unknown read_rows (λ m. refl) silent-rows o l)
+
+  pub asks-config : (o l : ℕ) → leb 0x100 o ≡ true → read_asks s (read_at o l) l ≡ (config_read s (o - 0x100) l).actions
+  asks-config o l e = rw e

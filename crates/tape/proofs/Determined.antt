@@ -1,12 +1,13 @@
 -- Any two results that a promise of this floor allows are equal, and so are the lent words at the end.
 use Rattle.std.proofs.Common.{◌≡◌, List, refl, sym, ◌∙◌}
 use Rattle.words.specs.declared.Action.{Action}
-use Rattle.tape.specs.Held.{no_held}
+use Rattle.tape.specs.Held.{entry, no_held}
 use Rattle.tape.specs.Play.{sheet, Played}
 use Rattle.tape.specs.declared.Recorder.{Recorder}
 use Rattle.tape.proofs.bell_entry.Reads as bell-entry-promise
 use Rattle.tape.proofs.note_entry.Reads as note-entry-promise
 use Rattle.tape.proofs.ActionFromCall.from.Reads as call-promise
+use Rattle.tape.proofs.EntryDefault.default.Reads as entry-default-promise
 use Rattle.tape.proofs.HeldDefault.default.Reads as held-default-promise
 use Rattle.tape.proofs.Recorder.new.Reads as new-promise
 use Rattle.tape.proofs.Recorder.emit.Reads as emit-promise
@@ -40,3 +41,7 @@ new-determined κs a r r' s s' p q =
 -- the derived default is the queue of which nothing is held
 pub held-default : (κs : _) (a : _) (r : _) (s : _) → held-default-promise.Post κs a r s → r ≡ no_held
 held-default κs a r s p = rw (p.0, p.1) refl
+
+-- and the entry of zeros
+pub entry-default : (κs : _) (a : _) (r : _) (s : _) → entry-default-promise.Post κs a r s → r ≡ entry 0 0 0 0
+entry-default κs a r s p = rw (p.0, p.1.0, p.1.1.0, p.1.1.1) refl

@@ -1,6 +1,7 @@
 -- Records played one after another: what is left to play from here comes to the whole.
-use Rattle.std.proofs.Common.{◌≡◌, ℕ, ◌+◌, ◌*◌, ◌≤◌, true, false, List, [], ◌∷◌, ◌++◌, length, subst, sym, refl, ap, ◌∙◌, add-zero, zero-add, arith, le-leb, leb-true}
+use Rattle.std.proofs.Common.{◌≡◌, ℕ, ◌+◌, ◌*◌, ◌≤◌, Bool, true, false, List, [], ◌∷◌, ◌++◌, length, subst, sym, refl, ap, ◌∙◌, add-zero, zero-add, arith, le-leb, leb-true}
 use lib.Seq.{sets, length-sets}
+use Rattle.words.specs.Pick.{pick}
 use Rattle.words.specs.Actions.{Emitted, fitting, words_of, words_of_all}
 use Rattle.words.proofs.Actions.{fits, length-words, sets-join}
 use Rattle.words.specs.declared.Action.{Action}
@@ -65,6 +66,22 @@ told b s (x ∷ xs) h =
       words = r.words ∙ ap (λ (k : ℕ). sets w k (words_of_all xs)) e ∙ sets-join (words_of x) s.words (5 * s.count) (words_of_all xs);
       count = omega (arith, r.count);
     })
+
+-- the lent words stay as many as they were, room or not
+one-long : (b : ℕ) (s : Sheet) (x : Action) → length (one b s x).words ≡ length s.words
+unfolding one
+one-long b s x = go (room_for s.count (length s.words))
+  where
+    go : (r : Bool) → length (pick r (sets s.words (5 * s.count) (words_of x)) s.words) ≡ length s.words
+    go true = length-sets s.words (5 * s.count) (words_of x)
+    go false = refl
+
+pub play-long : (b : ℕ) (s : Sheet) (xs : List Action) → length (play b s xs).words ≡ length s.words
+play-long b s [] = refl
+play-long b s (x ∷ xs) = play-long b (one b s x) xs ∙ one-long b s x
+
+pub same-long : (b : ℕ) (s s' : Sheet) (xs ys : List Action) → play b s xs ≡ play b s' ys → length s.words ≡ length s'.words
+same-long b s s' xs ys e = sym (play-long b s xs) ∙ ap (λ (r : Sheet). length r.words) e ∙ play-long b s' ys
 
 -- ---- as a function's contract says it
 

@@ -18,9 +18,9 @@ use Rattle.mmio_v2.specs.declared.MmioV2Device.{MmioV2Device}
 use Rattle.mmio_v2.specs.declared.MadeDevice.{MadeDevice}
 use Rattle.mmio_v2.proofs.Making.{made_new}
 use Rattle.trace.specs.Numbers.{word_at}
-use Rattle.trace.specs.Form.{known_version}
+use Rattle.trace.specs.Form.{known_version, block_place, records_place, pool_place}
 use Rattle.trace.specs.Block.{block_at}
-use Rattle.trace.specs.Verdict.{count, laid, layout_of, judged_of, or_else, judged_from, record_of, verdict_of, Good, next_at, number_of}
+use Rattle.trace.specs.Verdict.{count, pool_length, laid, layout_of, judged_of, or_else, judged_from, record_of, verdict_of, Good, next_at, number_of}
 use Rattle.std.specs.Prelude.{Some, None, Result, Ok, Err}
 
 -- ---- a layout with nothing wrong
@@ -41,6 +41,15 @@ laid_out s e = right (ltb (length s) 24) (ltb 65536 (length s)) (known_version (
 
 pub laid_few : (s : List ℕ) → layout_of s ≡ 0 → count s ≤ 2000
 laid_few s e = leb-true (count s) 2000 (pick-both (leb (count s) 2000) _ (laid_out s e)).0
+
+-- the pool ends where the bytes do
+pub laid-whole : (s : List ℕ) → layout_of s ≡ 0 → pool_place (count s) + pool_length s ≡ length s
+laid-whole s e =
+    eqb-true (pool_place (count s) + pool_length s) (length s)
+    (pick-both (eqb (word_at s 16) (pool_place (count s))) _
+    (pick-both (eqb (word_at s 12) records_place) _
+    (pick-both (eqb (word_at s 8) block_place) _
+    (pick-both (leb (count s) 2000) _ (laid_out s e)).1).1).1).1
 
 -- ---- the records, one by one: what is wrong from record i on is what is wrong in all
 

@@ -1,5 +1,8 @@
 -- Any two results that a promise of this floor allows are equal.
-use mathlib.Core.Path.{◌≡◌, sym, ◌∙◌}
+use mathlib.Core.Path.{◌≡◌, refl, sym, ◌∙◌}
+use Rattle.virtq.specs.Fields.{no_queue}
+use Rattle.virtq.proofs.QueueDefault.default.Reads as queue-default-promise
+use Rattle.virtq.proofs.MemoryDefault.default.Reads as memory-default-promise
 use Rattle.virtq.proofs.QueueIndex.vector.Reads as vectors
 use Rattle.virtq.proofs.FieldTryFromU32.try_from.Reads as tried-numbers
 use Rattle.virtq.proofs.field_numbered.Reads as numbers
@@ -48,3 +51,10 @@ address-determined κs a r r' s s' p q = p ∙ sym q
 
 pub try-from-determined : (κs : _) (a : _) (r r' : _) (s s' : _) → tried-numbers.Post κs a r s → tried-numbers.Post κs a r' s' → r ≡ r'
 try-from-determined κs a r r' s s' p q = p ∙ sym q
+
+-- the derived defaults: a queue of zeros, of maximum 0, and a memory with no byte
+pub queue-default : (κs : _) (a : _) (r : _) (s : _) → queue-default-promise.Post κs a r s → r ≡ no_queue
+queue-default κs a r s p = rw (p.0, p.1.0, p.1.1.0, p.1.1.1.0, p.1.1.1.1.0, p.1.1.1.1.1.0, p.1.1.1.1.1.1.0, p.1.1.1.1.1.1.1) refl
+
+pub memory-default : (κs : _) (a : _) (r : _) (s : _) → memory-default-promise.Post κs a r s → r ≡ record { length = 0 }
+memory-default κs a r s p = rw p refl

@@ -21,6 +21,10 @@ no-sum m start n h = go (leb start (m - n)) refl
     go true e = e ∙ sym (le-leb (start + n) m (omega (arith, leb-true start (m - n) e)))
     go false e = e ∙ sym (lt-leb (start + n) m (omega (arith, leb-false start (m - n) e)))
 
+-- what is longer than the memory ends past it, wherever it starts
+pub too_long : (m start n : ℕ) → m < n → false ≡ leb (start + n) m
+too_long m start n h = sym (lt-leb (start + n) m (omega arith))
+
 -- the loop's invariant: what is found from queue i on is what is found in all, and none was found so far
 pub record Going (m : Memory) (g : ℕ → Field → ℕ) (n i : ℕ) (found : Option QueueIndex) : Type 0 where
   pub whole : scanned m g i (n - i) ≡ scanned m g 0 n
