@@ -49,6 +49,8 @@ pub struct Done {
 
 // ---- from a configuration
 
+// A function of its own in the program too: in line, every write would carry its tables.
+#[inline(never)]
 fn begun(hot: Hot, config: Config) -> MmioV2DeviceState
     ensures { result ≡ begun hot config }
 {

@@ -253,6 +253,10 @@ impl MmioV2Device {
         ensures value { result ≡ answer_of (step (length actions.old) self.state (Write k offset bytes.now)) }
         ensures actions_after { actions.new ≡ laid actions.old (step (length actions.old) self.state (Write k offset bytes.now)).actions }
     {
+        // Asked here too, so that nothing is worked out for a write that is refused.
+        if let Err(e) = mmio_state::enough(actions) {
+            return refuse(self, e);
+        }
         let r = registers::write_register(offset, bytes.len());
         told(self, &write_to(self.state, r, bytes, k, actions))
     }
