@@ -1,9 +1,14 @@
 //! What the programs that are held to a file `stdout` print with: labels, numbers after a space, and action records; and the
-//! configuration that they begin with. A write that fails is answered as the error that it was.
+//! configuration that they begin with. A write that fails is answered as the error that it was. Beside these stands the reading
+//! of an input that may come in pieces, for other crates to call: a program here that reads an input has one of its own.
 #![tactic(auto)]
+
+ghost use Rattle.std.specs.Prelude.{◌≡◌, ◌≤◌, length, take};
+ghost use Rattle.std.specs.Io.KnownBytes.{Consumes};
 
 use mmio_config::{Configuration, Region};
 use std::io;
+use std::io::Read;
 
 /// The configuration that the programs begin with: two data queues of 256 with a doorbell at 0xd0000000, four vectors, no regions,
 /// memory up to 0x10000.
@@ -29,6 +34,22 @@ pub const PLAIN: Configuration = Configuration {
         length: 0,
     }; 8],
 };
+
+/// Reads until the space is full, the input ends or a read fails, and answers how many bytes stand at its start.
+pub fn read_full<R: Read>(from: &mut R, space: &mut [u8]) -> usize
+    ensures within { result ≤ length space.new }
+    ensures long { length space.new ≡ length space.old }
+    ensures taken { Consumes (R.remaining from.old) (R.remaining from.new) (take result space.new) }
+{
+    let mut done = 0;
+    while done < space.len() {
+        match from.read(&mut space[done..]) {
+            Ok(n) if 0 < n => done += n,
+            _ => break,
+        }
+    }
+    done
+}
 
 /// The label as it is.
 pub fn say(rt: &impl Print, label: &[u8]) -> io::Result<()> {
@@ -141,4 +162,49 @@ pub fn answer(
         same_bytes(before, after, reply) && same_words(words, count),
     )?;
     records(rt, words, count)
+}
+
+#[cfg(test)]
+mod tests {
+    use super::*;
+    use std::io::ErrorKind;
+
+    // Gives its number and counts down, a byte at a time; at 0 it fails.
+    #[derive(Drop)]
+    struct Countdown(u8);
+
+    impl Read for Countdown {
+        fn read(&mut self, space: &mut [u8]) -> io::Result<usize> {
+            if self.0 == 0 {
+                return Err(ErrorKind::Other.into());
+            }
+            if space.is_empty() {
+                return Ok(0);
+            }
+            space[0] = self.0;
+            self.0 -= 1;
+            Ok(1)
+        }
+    }
+
+    #[test]
+    fn reads_until_full_or_at_the_end(rt: HostRuntime) {
+        let mut input: &[u8] = b"leap59";
+        let mut space = [0u8; 4];
+        assert_eq!(rt; read_full(&mut input, &mut []), 0);
+        for (n, bytes) in [(4, *b"leap"), (2, *b"59ap"), (0, *b"59ap")] {
+            assert_eq!(rt; read_full(&mut input, &mut space), n);
+            assert_eq!(rt; space, bytes);
+        }
+    }
+
+    #[test]
+    fn reads_in_pieces_until_a_read_fails(rt: HostRuntime) {
+        let mut input = Countdown(5);
+        let mut space = [9u8; 4];
+        for (n, bytes) in [(4, [5, 4, 3, 2]), (1, [1, 4, 3, 2]), (0, [1, 4, 3, 2])] {
+            assert_eq!(rt; read_full(&mut input, &mut space), n);
+            assert_eq!(rt; space, bytes);
+        }
+    }
 }

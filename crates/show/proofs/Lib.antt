@@ -1,0 +1,2 @@
+-- What each promise determines.
+pub mod Determined
