@@ -6,7 +6,7 @@ use Rattle.std.specs.Prelude.{Option, None, Some}
 use Rattle.std.specs.Io.KnownBytes.{Consumes}
 use Rattle.show.proofs.read_full.Reads as read-full-promise
 
--- as many bytes as the input lost, and those
+-- of an input that had xs, and has p left, any two calls took as many bytes, and the same ones
 lost : (p : Option (List ℕ)) (xs b c : List ℕ) (n m : ℕ) → n ≤ length b → m ≤ length c
     → Consumes (Some xs) p (take n b) → Consumes (Some xs) p (take m c) → (n ≡ m) × (take n b ≡ take m c)
 lost None xs b c n m hb hc e f = absurd e
@@ -18,6 +18,7 @@ lost (Some ys) xs b c n m hb hc e f =
     let same : n ≡ m = omega (arith, kb, kc, lb, lc) in
     (same, sym (ap (take n) e ∙ take_at (take n b) ys n kb) ∙ ap (λ k. take k xs) same ∙ ap (take m) f ∙ take_at (take m c) ys m kc)
 
+-- `reader` says what an input of the type has left; the arguments are a before the call, and s or s' after it
 pub read-full-determined : (type laws reader dict κs a r r' s s' : _)
     → read-full-promise.Post type laws reader dict κs a r s → read-full-promise.Post type laws reader dict κs a r' s'
     → (xs : List ℕ) → reader.remaining a.0.now ≡ Some xs → reader.remaining s.0.now ≡ reader.remaining s'.0.now → (r ≡ r') × (take r s.1.0.now ≡ take r' s'.1.0.now)
